@@ -1,0 +1,5 @@
+use Rattle.sfs_xdr.proofs.ItemLemmas.{opaque_exact}
+use Rattle.sfs_xdr.proofs.laws.opaque_is_exact.Goals as goal
+
+pub returns : goal.returns
+returns c = opaque_exact

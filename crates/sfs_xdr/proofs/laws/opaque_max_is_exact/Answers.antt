@@ -1,0 +1,5 @@
+use Rattle.sfs_xdr.proofs.ItemLemmas.{opaque_max_exact}
+use Rattle.sfs_xdr.proofs.laws.opaque_max_is_exact.Goals as goal
+
+pub returns : goal.returns
+returns c = opaque_max_exact

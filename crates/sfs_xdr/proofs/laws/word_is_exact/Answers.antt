@@ -1,0 +1,5 @@
+use Rattle.sfs_xdr.proofs.ItemLemmas.{word_exact}
+use Rattle.sfs_xdr.proofs.laws.word_is_exact.Goals as goal
+
+pub returns : goal.returns
+returns c = word_exact
