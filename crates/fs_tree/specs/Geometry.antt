@@ -1,0 +1,10 @@
+-- How large a cluster may be, and which numbers its files have.
+use Rattle.std.specs.Prelude.{ℕ, ◌+◌, ◌*◌, ◌≤◌}
+use Rattle.fs_tree.specs.declared.geometry.Geometry.{Geometry}
+
+-- 1 to 8 NFS nodes, 1 to 8 memory nodes, 1 to 16,384 blocks and inodes on each of these
+pub record IsWithinLimits (g : Geometry) : Type 0 where
+  pub nodes : (1 ≤ g.nodes) × (g.nodes ≤ 8)
+  pub memories : (1 ≤ g.memories) × (g.memories ≤ 8)
+  pub blocks : (1 ≤ g.blocks) × (g.blocks ≤ 16384)
+  pub inodes : (1 ≤ g.inodes) × (g.inodes ≤ 16384)

@@ -1,0 +1,9 @@
+pub use Rattle.sfs_base.specs.Fault
+pub mod Geometry
+pub mod Handle
+pub mod File
+pub mod Numbers
+pub mod Good
+pub mod Fresh
+pub mod Respond
+pub mod Laws

@@ -1,0 +1,35 @@
+ghost use Rattle.std.specs.Prelude.{IsTrue, ◌↔◌};
+ghost use Rattle.fs_tree.specs.Geometry.{IsWithinLimits};
+
+/// The greatest number of NFS nodes of a cluster.
+pub const MAX_NODES: u32 = 8;
+
+/// The greatest number of memory nodes of a cluster.
+pub const MAX_MEMORIES: u32 = 8;
+
+/// The greatest number of blocks of a memory node: what one page of bits tells of.
+pub const MAX_BLOCKS: u32 = 16_384;
+
+/// The greatest number of inodes of a memory node: what one page of bits tells of.
+pub const MAX_INODES: u32 = 16_384;
+
+/// How large a cluster is: its NFS nodes, its memory nodes, and the blocks and inodes of each of these.
+#[derive(Clone, Copy, Debug, PartialEq, Eq)]
+pub struct Geometry {
+    pub nodes: u32,
+    pub memories: u32,
+    pub blocks: u32,
+    pub inodes: u32,
+}
+
+impl Geometry {
+    /// Whether each number is at least 1 and within its limit.
+    pub fn is_within_limits(&self) -> bool
+        ensures { IsTrue result ↔ IsWithinLimits self.now }
+    {
+        (1..=MAX_NODES).contains(&self.nodes)
+            && (1..=MAX_MEMORIES).contains(&self.memories)
+            && (1..=MAX_BLOCKS).contains(&self.blocks)
+            && (1..=MAX_INODES).contains(&self.inodes)
+    }
+}
