@@ -1,0 +1,4 @@
+pub mod LineLemmas
+pub mod WindowLemmas
+pub mod StreamSteps
+pub mod ReadOn
