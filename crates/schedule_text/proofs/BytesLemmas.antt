@@ -1,0 +1,131 @@
+-- Words that spell bytes, two hexadecimal digits each.
+use Rattle.std.proofs.Common.{◌≡◌, ℕ, zero, suc, ◌+◌, ◌-◌, ◌*◌, ◌/◌, ◌%◌, ◌<◌, ◌≤◌, ◌==◌, Bool, true, false, ◌&&◌, ◌||◌, not, cond, nat_le, nat_lt, List, [], ◌∷◌, length, slice_index, Option, Some, None, Result, Ok, Err, inl, inr, refl, sym, ap, ◌∙◌, arith}
+use Rattle.std.specs.Prelude.{IsSome}
+use Rattle.std.specs.List.{list_all, AllPass}
+use Rattle.std.specs.Result.{result_ok}
+use Rattle.std.proofs.lemmas.Bool.{agree_below, agree_below_at, and_from, and_parts, cases_eq, eqb-true, le-leb, leb-true, ltb-true, or_cases, both_ways}
+use Rattle.std.proofs.lemmas.Option.{same_Some}
+use Rattle.sfs_base.specs.Reading.{IsBytes}
+use Rattle.hex.specs.Hex.{decode_of, encode_lower, encode_with, is_hex_digit, lower_digits}
+use Rattle.hex.proofs.HexLemmas.{decode_of-encode_lower, decode_of-odd, decode_of-same, length-encode_with}
+use Rattle.schedule_text.specs.Words.{bytes_of, is_lower_hex_digit, IsDatagram}
+use Rattle.schedule_text.specs.declared.limits.TheConstants.{MAX_DATAGRAM_BYTES}
+
+-- ---- one digit
+
+-- the value of a digit
+abbrev digit_place : ℕ → ℕ
+digit_place c = cond (nat_le 97 c) (c - 87) (c - 48)
+
+-- the test that a digit stands at its value among the sixteen, which computes
+abbrev stands_at_place : ℕ → Bool
+stands_at_place c = not (is_lower_hex_digit c) || (nat_lt (digit_place c) 16 && slice_index lower_digits (digit_place c) == c)
+
+-- a digit is less than 103
+digit_small : (c : ℕ) → is_lower_hex_digit c ≡ true → c < 103
+digit_small c digit = grind arith
+
+-- a digit is one of the sixteen
+digit_at : (c : ℕ) → is_lower_hex_digit c ≡ true → (v : ℕ) × (v < 16) × (slice_index lower_digits v ≡ c)
+digit_at c digit =
+    let tested : stands_at_place c ≡ true = agree_below_at stands_at_place (λ _. true) 103 c refl (digit_small c digit) in
+    elim (or_cases (not (is_lower_hex_digit c)) _ tested) [
+      | inl none ↦ cc (none, digit)
+      | inr both ↦
+          let parts = and_parts (nat_lt (digit_place c) 16) (slice_index lower_digits (digit_place c) == c) both in
+          (digit_place c, ltb-true (digit_place c) 16 parts.0, eqb-true (slice_index lower_digits (digit_place c)) c parts.1)
+    ]
+
+-- each of the sixteen is a digit
+digit_from : (v : ℕ) → v < 16 → is_lower_hex_digit (slice_index lower_digits v) ≡ true
+digit_from v small = agree_below_at (λ d. is_lower_hex_digit (slice_index lower_digits d)) (λ _. true) 16 v refl small
+
+-- ---- words
+
+-- a byte in front of bytes
+IsBytes-cons : (b : ℕ) (rest : List ℕ) → b < 256 → IsBytes rest → IsBytes (b ∷ rest)
+IsBytes-cons b rest first others zero = first
+IsBytes-cons b rest first others (suc i) = others i
+
+-- two digits for each byte
+record Pairs (word bytes : List ℕ) : Type 0 where
+  spelled : word ≡ encode_lower bytes
+  each : IsBytes bytes
+
+-- an even number of digits spells bytes
+pairs_of : (word : List ℕ) → length word % 2 ≡ 0 → list_all is_lower_hex_digit word ≡ true → (bytes : List ℕ) × Pairs word bytes
+unfolding encode_with
+pairs_of [] even digits = ([], record { spelled = refl; each = λ i. omega arith })
+pairs_of (a ∷ []) even digits = absurd (omega arith)
+pairs_of (a ∷ b ∷ rest) even digits =
+    let first = and_parts (is_lower_hex_digit a) _ digits in
+    let second = and_parts (is_lower_hex_digit b) (list_all is_lower_hex_digit rest) first.1 in
+    let high = digit_at a first.0 in
+    let low = digit_at b second.0 in
+    let others = pairs_of rest (omega arith) second.1 in
+    let above : (high.0 * 16 + low.0) / 16 ≡ high.0 = omega (arith, high.1, low.1) in
+    let below : (high.0 * 16 + low.0) % 16 ≡ low.0 = omega (arith, high.1, low.1) in
+    let fits : high.0 * 16 + low.0 < 256 = omega (arith, high.1, low.1) in (
+      (high.0 * 16 + low.0) ∷ others.0,
+      record {
+        spelled = rw (above, below, high.2, low.2) (ap (λ (r : List ℕ). a ∷ b ∷ r) others.1.spelled);
+        each = IsBytes-cons (high.0 * 16 + low.0) others.0 fits others.1.each;
+      },
+    )
+
+-- spelled bytes are digits
+digits_of_encode : (bytes : List ℕ) → IsBytes bytes → list_all is_lower_hex_digit (encode_lower bytes) ≡ true
+unfolding encode_with
+digits_of_encode [] each = refl
+digits_of_encode (b ∷ rest) each =
+    let fits : b < 256 = each 0 in
+    and_from (is_lower_hex_digit (slice_index lower_digits (b / 16))) _ (digit_from (b / 16) (omega arith))
+    (and_from (is_lower_hex_digit (slice_index lower_digits (b % 16))) _ (digit_from (b % 16) (omega arith)) (digits_of_encode rest (λ i. each (suc i))))
+
+-- a choice that gave a value
+choice_some : {A : Type 0} (b : Bool) (o : Option A) (x : A) → cond b o None ≡ Some x → (b ≡ true) × (o ≡ Some x)
+choice_some true o x is = (refl, is)
+choice_some false o x is = cc is
+
+-- what decodes has an even number of digits
+even_where_read : (word bytes : List ℕ) → result_ok (decode_of word) ≡ Some bytes → length word % 2 ≡ 0
+even_where_read word bytes read =
+    elim (cases_eq (length word % 2) 1) [
+      | inl odd ↦ cc (sym (ap result_ok (decode_of-odd word odd)) ∙ read)
+      | inr even ↦ omega arith
+    ]
+
+-- a word of an even number of digits, two for each byte of a datagram, spells them
+pub bytes_of-digits : (word : List ℕ) → 2 ≤ length word → length word ≤ 2 * MAX_DATAGRAM_BYTES
+    → list_all is_lower_hex_digit word ≡ true → (length word % 2 ≡ 1 → ⊥) → IsSome (bytes_of word)
+bytes_of-digits word some within digits even =
+    let found = pairs_of word (omega arith) digits in
+    let read : decode_of word ≡ Ok found.0 = ap decode_of found.1.spelled ∙ decode_of-encode_lower found.0 found.1.each in
+    rw (le-leb 2 (length word) some, le-leb (length word) (2 * MAX_DATAGRAM_BYTES) within, digits, read) refl
+
+-- a word that spells bytes is their digits
+pub bytes_of-Some : (word bytes : List ℕ) → bytes_of word ≡ Some bytes → IsDatagram bytes × (word ≡ encode_lower bytes)
+bytes_of-Some word bytes read =
+    let chosen = choice_some (nat_le 2 (length word) && nat_le (length word) (2 * MAX_DATAGRAM_BYTES) && list_all is_lower_hex_digit word) (result_ok (decode_of word)) bytes read in
+    let outer = and_parts (nat_le 2 (length word) && nat_le (length word) (2 * MAX_DATAGRAM_BYTES)) (list_all is_lower_hex_digit word) chosen.0 in
+    let inner = and_parts (nat_le 2 (length word)) (nat_le (length word) (2 * MAX_DATAGRAM_BYTES)) outer.0 in
+    let found = pairs_of word (even_where_read word bytes chosen.1) outer.1 in
+    let decoded : decode_of word ≡ Ok found.0 = ap decode_of found.1.spelled ∙ decode_of-encode_lower found.0 found.1.each in
+    let same : found.0 ≡ bytes = same_Some found.0 bytes (sym (ap result_ok decoded) ∙ chosen.1) in
+    let size : length word ≡ 2 * length found.0 = ap length found.1.spelled ∙ length-encode_with lower_digits found.0 in
+    let some = leb-true 2 (length word) inner.0 in
+    let within = leb-true (length word) (2 * MAX_DATAGRAM_BYTES) inner.1 in
+    rw (← same) (record { some = omega arith; within = omega arith; each = found.1.each }, found.1.spelled)
+
+-- the digits of a datagram spell it
+pub bytes_of-encode : (bytes : List ℕ) → IsDatagram bytes → bytes_of (encode_lower bytes) ≡ Some bytes
+bytes_of-encode bytes is =
+    let digits = length-encode_with lower_digits bytes in
+    let some : 2 ≤ length (encode_lower bytes) = omega (arith, digits, is.some) in
+    let within : length (encode_lower bytes) ≤ 2 * MAX_DATAGRAM_BYTES = omega (arith, digits, is.within) in
+    rw (
+      le-leb 2 (length (encode_lower bytes)) some,
+      le-leb (length (encode_lower bytes)) (2 * MAX_DATAGRAM_BYTES) within,
+      digits_of_encode bytes is.each,
+      decode_of-encode_lower bytes is.each,
+    ) refl
