@@ -1,5 +1,5 @@
-ghost use Rattle.std.specs.Prelude.{IsTrue, ◌↔◌};
-ghost use Rattle.fs_tree.specs.Geometry.{IsWithinLimits};
+ghost use Rattle.std.specs.Prelude.{◌≡◌, IsTrue, ◌↔◌};
+ghost use Rattle.fs_tree.specs.Geometry.{IsWithinLimits, within_limits};
 
 /// The greatest number of NFS nodes of a cluster.
 pub const MAX_NODES: u32 = 8;
@@ -25,7 +25,8 @@ pub struct Geometry {
 impl Geometry {
     /// Whether each number is at least 1 and within its limit.
     pub fn is_within_limits(&self) -> bool
-        ensures { IsTrue result ↔ IsWithinLimits self.now }
+        ensures test { result ≡ within_limits self.now }
+        ensures exact { IsTrue result ↔ IsWithinLimits self.now }
     {
         (1..=MAX_NODES).contains(&self.nodes)
             && (1..=MAX_MEMORIES).contains(&self.memories)

@@ -32,4 +32,4 @@ pub use laws::fresh_is_good;
 pub use rpc_msg::Cred;
 pub use sfs_base::{Bytes, NoMemory};
 pub use stamp::Stamp;
-pub use tree::Tree;
+pub use tree::{ROOT, Tree};

@@ -1,16 +1,20 @@
 -- Numbers one behind the other: what is left behind them, and what stands before it.
-use Rattle.std.proofs.Common.{◌≡◌, ℕ, zero, suc, ◌+◌, ◌-◌, ◌^◌, ◌<◌, ◌≤◌, Bool, true, false, cond, eqb, List, [], ◌∷◌, ◌++◌, length, get_or, drop, Option, Some, None, Result, Ok, Err, lit<, refl, sym, ap, ◌∙◌, append_assoc, arith}
+use Rattle.std.proofs.Common.{◌≡◌, ℕ, zero, suc, ◌+◌, ◌-◌, ◌*◌, ◌^◌, ◌<◌, ◌≤◌, Bool, true, false, cond, eqb, List, [], ◌∷◌, ◌++◌, length, get_or, take, drop, Option, Some, None, Result, Ok, Err, lit<, refl, sym, ap, ◌∙◌, append_assoc, arith}
 use Rattle.std.specs.Prelude.{option_and_then}
 use Rattle.std.specs.List.{AllByRecursion}
 use Rattle.std.proofs.lemmas.Bool.{eqb-true}
-use Rattle.std.proofs.lemmas.List.{drop_more, drop_all, append-nil}
+use Rattle.std.proofs.lemmas.List.{drop_more, drop_all, append-nil, length-append, take_at}
+use Rattle.std.specs.Prelude.{bytes_eq}
+use Rattle.std.specs.Int.{Width, w32, byte_len, from_be_bytes, to_be_bytes}
+use Rattle.std.proofs.lemmas.Nat.{from_be_bytes-to_be_bytes_4}
+use Rattle.std.proofs.lemmas.Slice.Eq.{bytes_eq-Decides}
 use Rattle.sfs_base.specs.Reading.{IsBytes}
-use Rattle.sfs_base.proofs.ReadingLemmas.{IsBytes-behind, ok_is}
+use Rattle.sfs_base.proofs.ReadingLemmas.{IsBytes-behind, IsBytes-take, IsBytes-append, ok_is}
 use Rattle.sfs_xdr.specs.declared.xdr_fault.XdrFault.{XdrFault}
 use Rattle.sfs_xdr.specs.Items.{word}
 use Rattle.sfs_xdr.specs.Reading.{word_of}
-use Rattle.sfs_xdr.proofs.ItemLemmas.{word_found, word_again}
-use Rattle.rpc_msg.specs.Messages.{words, root_getattr_behind, after_word, after_words}
+use Rattle.sfs_xdr.proofs.ItemLemmas.{word_found, word_again, word_below}
+use Rattle.rpc_msg.specs.Messages.{words, root_getattr, root_getattr_in, root_getattr_behind, xid_in, after_word, after_words}
 
 -- ---- one number after another, as a loop takes them
 
@@ -142,3 +146,54 @@ more_behind behind bytes start left rest seen n is fits first taken shown longer
 pub root_words : AreWords root_getattr_behind
 root_words =
     (lit< tt, (lit< tt, (lit< tt, (lit< tt, (lit< tt, (lit< tt, (lit< tt, (lit< tt, (lit< tt, (lit< tt, (lit< tt, (lit< tt, (lit< tt, (lit< tt, (lit< tt, (lit< tt, (lit< tt, tt)))))))))))))))))
+
+-- ---- the xid of the one call
+
+-- the first four bytes of a call are its xid
+first_four : (w : Width) (n : ℕ) (rest : List ℕ) → length (to_be_bytes w n) ≡ byte_len w → take (byte_len w) (to_be_bytes w n ++ rest) ≡ to_be_bytes w n
+first_four w n rest len = take_at (to_be_bytes w n) rest (byte_len w) len
+
+xid-root_getattr : (xid : ℕ) → xid < 2 ^ 32 → xid_in (root_getattr xid) ≡ xid
+xid-root_getattr xid below = ap (from_be_bytes w32) (first_four w32 xid (words root_getattr_behind) refl) ∙ from_be_bytes-to_be_bytes_4 xid below
+
+-- such a call is told
+pub told : (bytes : List ℕ) (xid : ℕ) → xid < 2 ^ 32 → bytes ≡ root_getattr xid → Some xid ≡ root_getattr_in bytes
+unfolding root_getattr_in
+told bytes xid below is =
+    let number : xid_in bytes ≡ xid = ap xid_in is ∙ xid-root_getattr xid below in
+    let same : bytes ≡ root_getattr (xid_in bytes) = is ∙ ap root_getattr (sym number) in
+    sym (ap (λ b. cond b (Some (xid_in bytes)) None) ((bytes_eq-Decides bytes (root_getattr (xid_in bytes))).1 same) ∙ ap Some number)
+
+-- a test that cannot pass
+fails : (b : Bool) → (b ≡ true → ⊥) → b ≡ false
+fails true h = absurd (h refl)
+fails false h = refl
+
+-- and nothing else is
+pub not_told : (bytes : List ℕ) → IsBytes bytes → ((xid : ℕ) → xid < 2 ^ 32 → bytes ≡ root_getattr xid → ⊥) → None ≡ root_getattr_in bytes
+unfolding root_getattr_in
+not_told bytes fits never =
+    let below : xid_in bytes < 2 ^ 32 = word_below (take 4 bytes) (IsBytes-take 4 bytes fits) in
+    let refused : bytes_eq bytes (root_getattr (xid_in bytes)) ≡ false =
+    fails (bytes_eq bytes (root_getattr (xid_in bytes))) (λ passed. never (xid_in bytes) below ((bytes_eq-Decides bytes (root_getattr (xid_in bytes))).0 passed)) in
+    sym (ap (λ b. cond b (Some (xid_in bytes)) None) refused)
+
+-- ---- lengths and bytes
+
+-- numbers have four bytes each
+pub length-words : (numbers : List ℕ) → length (words numbers) ≡ 4 * length numbers
+length-words [] = refl
+length-words (n ∷ ns) = length-append (word n) (words ns) ∙ omega (arith, length-words ns)
+
+-- the spelling of a number is bytes
+word_bytes : (n : ℕ) → IsBytes (word n)
+word_bytes n zero = omega arith
+word_bytes n (suc zero) = omega arith
+word_bytes n (suc (suc zero)) = omega arith
+word_bytes n (suc (suc (suc zero))) = omega arith
+word_bytes n (suc (suc (suc (suc i)))) = omega arith
+
+-- and so is that of several
+pub words_bytes : (numbers : List ℕ) → IsBytes (words numbers)
+words_bytes [] i = omega arith
+words_bytes (n ∷ ns) i = IsBytes-append (word n) (words ns) (word_bytes n) (words_bytes ns) i

@@ -1,6 +1,7 @@
 -- How the messages of ONC RPC are spelled (RFC 1057, section 8).
-use Rattle.std.specs.Prelude.{ℕ, ◌==◌, if◌then◌else◌, List, [], ◌∷◌, ◌++◌, Option, Some, None, option_and_then, Result, Ok, Err}
+use Rattle.std.specs.Prelude.{ℕ, ◌==◌, if◌then◌else◌, List, [], ◌∷◌, ◌++◌, take, bytes_eq, Option, Some, None, option_and_then, Result, Ok, Err}
 use Rattle.std.specs.List.{flat_map}
+use Rattle.std.specs.Int.{w32, from_be_bytes}
 use Rattle.sfs_xdr.specs.Items.{word}
 use Rattle.sfs_xdr.specs.Reading.{word_of}
 use Rattle.sfs_xdr.specs.declared.xdr_fault.XdrFault.{XdrFault}
@@ -21,6 +22,14 @@ root_getattr_behind = 0 ∷ 2 ∷ 100003 ∷ 2 ∷ 1 ∷ 0 ∷ 0 ∷ 0 ∷ 0 ∷
 -- that call, and nothing after it
 abbrev pub root_getattr : ℕ → List ℕ
 root_getattr xid = words (xid ∷ root_getattr_behind)
+
+-- the first four bytes of a message: its xid
+abbrev pub xid_in : List ℕ → ℕ
+xid_in bytes = from_be_bytes w32 (take 4 bytes)
+
+-- the xid of some bytes that are just such a call
+unfoldable pub root_getattr_in : List ℕ → Option ℕ
+root_getattr_in bytes = if bytes_eq bytes (root_getattr (xid_in bytes)) then Some (xid_in bytes) else None
 
 -- an accepted reply: its xid, reply 1, accepted 0, an empty verifier, success 0, and the result
 abbrev pub accepted : ℕ → List ℕ → List ℕ

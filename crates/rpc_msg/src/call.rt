@@ -1,5 +1,5 @@
 ghost use Rattle.std.specs.Prelude.{◌≡◌, ◌<◌, ◌^◌, ℕ, true, false, Some, None, IfSome, IfNone};
-ghost use Rattle.rpc_msg.specs.Messages.{root_getattr, after_word, after_words};
+ghost use Rattle.rpc_msg.specs.Messages.{root_getattr, root_getattr_in, after_word, after_words};
 ghost use Rattle.sfs_xdr.specs.Reading.{word_of};
 
 use sfs_xdr::Reader;
@@ -30,6 +30,7 @@ const ROOT_GETATTR: [u32; 17] = [
 /// The xid of a call of GETATTR of the root without a credential, where the bytes are just such a call
 /// and nothing follows it; else `None`.
 pub fn root_getattr(bytes: &[u8]) -> Option<u32>
+    ensures exact { result ≡ root_getattr_in bytes.now }
     ensures found { IfSome result (λ xid. bytes.now ≡ root_getattr xid) }
     ensures none { IfNone result ((xid : ℕ) → xid < 2 ^ 32 → bytes.now ≡ root_getattr xid → ⊥) }
 {

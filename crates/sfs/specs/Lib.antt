@@ -2,3 +2,9 @@ pub mod Output
 pub mod Lines
 pub mod Reading
 pub mod LineReader
+pub mod Schedule
+pub mod Reply
+pub mod Book
+pub mod Legal
+pub mod World
+pub mod ScheduleReader

@@ -7,8 +7,7 @@ ghost use Rattle.sfs.specs.LineReader.{Finds, Turns, TakesAll, Scans, Keeps, Ref
 use crate::found::{Found, Scanned};
 use crate::stop::Stop;
 use memchr::memchr;
-use schedule_text::{Failed, NoMemory, Source};
-const MAX_LINE_BYTES: usize = 140_000;
+use schedule_text::{Failed, MAX_LINE_BYTES, NoMemory, Source};
 use std::alloc::Global;
 use std::marker::Model;
 

@@ -2,6 +2,10 @@
 #![tactic(auto)]
 
 mod found;
+mod reply;
+mod schedule_reader;
+mod step;
+mod world;
 mod line_reader;
 mod output;
 mod stop;

@@ -1,0 +1,27 @@
+-- Lines of a transcript that come one after another, and what the book of all of them is.
+use Rattle.std.proofs.Common.{◌≡◌, ℕ, zero, suc, ◌+◌, ◌-◌, ◌^◌, ◌<◌, ◌≤◌, Bool, true, false, cond, eqb, ltb, List, [], ◌∷◌, ◌++◌, length, get_or, Option, Some, None, refl, sym, ap, subst, ◌∙◌, append_assoc, arith}
+use Rattle.std.specs.Prelude.{slice_get, position, option_map, option_and_then, is_some, Contains, All}
+use Rattle.std.specs.List.{flat_map}
+use Rattle.std.proofs.lemmas.Grind.{flat_map-append}
+use Rattle.schedule_text.specs.declared.line.Line.{Line}
+use Rattle.sfs.specs.Schedule.{Schedule}
+use Rattle.sfs.specs.Book.{Book, noted, book_after}
+use Rattle.sfs.specs.Legal.{IsLegalFrom, IsAllowed, text_of}
+
+-- the book after lines and more lines
+pub book_after-append : (schedule : Schedule) (book : Book) (ls more : List Line) → book_after schedule book (ls ++ more) ≡ book_after schedule (book_after schedule book ls) more
+unfolding book_after
+book_after-append schedule book [] more = refl
+book_after-append schedule book (l ∷ ls) more = book_after-append schedule (noted schedule book l) ls more
+
+-- lines that are legal, and more that are legal after them
+pub legal-append : (schedule : Schedule) (book : Book) (ls more : List Line) → IsLegalFrom schedule book ls → IsLegalFrom schedule (book_after schedule book ls) more
+    → IsLegalFrom schedule book (ls ++ more)
+unfolding book_after IsLegalFrom
+legal-append schedule book [] more first second = second
+legal-append schedule book (l ∷ ls) more first second = (first.0, legal-append schedule (noted schedule book l) ls more first.1 second)
+
+-- the text of lines and more lines
+pub text-append : (ls more : List Line) → text_of (ls ++ more) ≡ text_of ls ++ text_of more
+unfolding text_of
+text-append ls more = flat_map-append _ ls more

@@ -1,0 +1,136 @@
+ghost use Rattle.std.specs.Prelude.{◌≡◌, ℕ, ◌<◌, ◌^◌, List, slice_get, Option, Some, IfOk, OnOk};
+ghost use Rattle.schedule_text.specs.declared.event.Event.TheVariants as event;
+ghost use Rattle.schedule_text.specs.declared.limits.TheConstants.{MAX_LINES};
+ghost use Rattle.sfs.specs.Schedule.{Schedule};
+ghost use Rattle.fs_tree.specs.Good.{IsGood};
+ghost use Rattle.schedule_text.specs.Words.{IsDatagram};
+ghost use Rattle.sfs.specs.Reply.{root_request, responded, reply};
+ghost use Rattle.sfs.specs.Book.{Book};
+
+use crate::reply::reply_to;
+use crate::step::{Lines, Step};
+use fs_tree::{Call, Cred, Geometry, Handle, ROOT, Stamp, Tree};
+use rpc_msg::root_getattr;
+use schedule_text::{Event, Line};
+use sfs_base::{Bytes, NoMemory, Seq};
+use std::alloc::Global;
+
+/// The generation of the root.
+const ROOT_GENERATION: u32 = 1;
+
+/// The plain world: one tree that all nodes export, and how many arrivals and changes there were.
+#[derive(Debug, Drop)]
+pub struct World {
+    pub tree: Tree,
+    pub arrivals: u32,
+    pub points: u64,
+}
+
+impl World {
+    ghost use Rattle.sfs.specs.World.{Stands, Steps, HasSpellings, Opens};
+
+    /// The world of the cluster that the first event of a schedule names; `None` where it names none
+    /// within the limits.
+    pub fn open(alloc: Global, event: &Event) -> Result<Option<World>, NoMemory>
+        ensures { IfOk result (Opens (Some event.now)) }
+    {
+        let Event::Cluster {
+            nodes,
+            memories,
+            blocks,
+            inodes,
+        } = event
+        else {
+            return Ok(None);
+        };
+        let geometry = Geometry {
+            nodes: *nodes,
+            memories: *memories,
+            blocks: *blocks,
+            inodes: *inodes,
+        };
+        if !geometry.is_within_limits() {
+            return Ok(None);
+        }
+        Ok(Some(World {
+            tree: Tree::fresh(alloc, geometry)?,
+            arrivals: 0,
+            points: 0,
+        }))
+    }
+
+    /// Handles the next event of a schedule.
+    pub fn step(&mut self, alloc: Global, event: &Event) -> Result<Step, NoMemory>
+        ensures step { (schedule : Schedule) (book : Book) → Stands schedule book self.old → book.lines < MAX_LINES
+            → slice_get schedule book.lines ≡ Some (Some event.now) → Steps schedule book self.new result }
+        ensures spelled { IfOk result HasSpellings }
+    {
+        match event {
+            Event::Cluster { .. } => Ok(Step::Refused),
+            Event::Arrive {
+                node,
+                sec,
+                usec,
+                bytes,
+            } => {
+                let moment = Stamp {
+                    sec: *sec,
+                    usec: *usec,
+                };
+                self.arrive(alloc, *node, moment, bytes)
+            }
+            Event::End => Ok(Step::Ended),
+        }
+    }
+
+    // Handles a datagram that comes to a node: its reply is made at once.
+    fn arrive(
+        &mut self,
+        alloc: Global,
+        node: u32,
+        moment: Stamp,
+        bytes: &Bytes,
+    ) -> Result<Step, NoMemory>
+        ensures step { (schedule : Schedule) (book : Book) → Stands schedule book self.old → book.lines < MAX_LINES
+            → slice_get schedule book.lines ≡ Some (Some (event.Arrive node moment.sec moment.usec bytes.now)) → Steps schedule book self.new result }
+        ensures spelled { IfOk result HasSpellings }
+    {
+        if node >= self.tree.geometry.nodes || self.arrivals == u32::MAX {
+            return Ok(Step::Refused);
+        }
+        let Some(xid) = root_getattr(bytes.as_slice()) else {
+            return Ok(Step::Refused);
+        };
+        let reply = answer_root(alloc, &mut self.tree, xid, moment)?;
+        let arrival = self.arrivals + 1;
+        let mut lines: Lines = Seq::new(alloc);
+        lines.push(Line::DoArrive { arrival, node })?;
+        lines.push(Line::Reply {
+            arrival,
+            at: self.points,
+            bytes: reply,
+        })?;
+        self.arrivals = arrival;
+        Ok(Step::On(lines))
+    }
+}
+
+// The reply to GETATTR of the root, which leaves the tree as it is.
+fn answer_root(
+    alloc: Global,
+    tree: &mut Tree,
+    xid: u32,
+    moment: Stamp,
+) -> Result<Bytes, NoMemory>
+    ensures exact { (arrival : ℕ) → IsGood tree.old → IfOk result (λ bytes. bytes ≡ reply tree.old (root_request xid) arrival moment) }
+    ensures left { (arrival : ℕ) → IsGood tree.old → OnOk result (tree.new ≡ (responded tree.old (root_request xid) arrival moment).tree) }
+    ensures good { IsGood tree.old → IsGood tree.new }
+    ensures sized { IfOk result IsDatagram }
+{
+    let call = Call::GetAttr {
+        file: Handle::new(ROOT, ROOT_GENERATION),
+    };
+    let cred = Cred::nobody(alloc);
+    let answer = tree.apply(&call, &cred, moment, None)?;
+    reply_to(alloc, xid, &answer)
+}
