@@ -21,6 +21,7 @@ use Rattle.sfs.specs.Schedule.{Schedule, cluster_of}
 use Rattle.sfs.specs.Reply.{Request, heard, responded, reply}
 use Rattle.sfs.specs.Book.{Book, Arrival, numbered, point_of, last_tree, may_come, come_from, next_event, with_arrival, noted, book_after}
 use Rattle.sfs.specs.Legal.{IsAtRest, IsRunning, Arrives, Replies, HoldsAt, IsAllowed, IsLegalFrom}
+use Rattle.sfs.specs.Completes.{reached}
 use Rattle.sfs.specs.World.{Stands, GoesOn}
 
 -- ---- the next event
@@ -206,3 +207,23 @@ module _ (schedule : Schedule) (book : Book) (w after : World) (node : ℕ) (mom
     stands = subst (λ (b : Book). Stands schedule b after) (sym book_is) it_stands;
     used = ap (λ (b : Book). b.lines) book_is;
   }
+
+-- ---- what one event tells of the schedule
+
+-- an arrival that is heard, at a node that is there
+pub goes_behind : (g : Geometry) (node sec usec : ℕ) (bytes : List ℕ) (request : Request) → node < g.nodes → heard bytes ≡ Some request
+    → (behind : Bool) → reached g (event.Arrive node sec usec bytes) behind ≡ behind
+goes_behind g node sec usec bytes request there is behind =
+    ap (λ b. b && (is_some (heard bytes) && behind)) ((Decides-ltb node g.nodes).1 there) ∙ ap (λ o. is_some o && behind) is
+
+-- one at another node
+pub no_node_behind : (g : Geometry) (node sec usec : ℕ) (bytes : List ℕ) → g.nodes ≤ node → (behind : Bool) → reached g (event.Arrive node sec usec bytes) behind ≡ false
+no_node_behind g node sec usec bytes past behind = ap (λ b. b && (is_some (heard bytes) && behind)) (le-ltb node g.nodes past)
+
+-- one that is not heard
+pub not_heard_behind : (g : Geometry) (node sec usec : ℕ) (bytes : List ℕ) → heard bytes ≡ None → (behind : Bool) → reached g (event.Arrive node sec usec bytes) behind ≡ false
+not_heard_behind g node sec usec bytes none behind = ap (λ o. ltb node g.nodes && (is_some o && behind)) none ∙ and_false (ltb node g.nodes)
+  where
+    and_false : (b : Bool) → (b && false) ≡ false
+    and_false true = refl
+    and_false false = refl

@@ -6,5 +6,7 @@ pub mod Schedule
 pub mod Reply
 pub mod Book
 pub mod Legal
+pub mod Completes
 pub mod World
 pub mod ScheduleReader
+pub mod Replay

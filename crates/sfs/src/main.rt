@@ -1,10 +1,14 @@
 //! The program `sfs`.
 #![tactic(auto)]
 
+mod ending;
 mod found;
+mod replay;
 mod reply;
 mod schedule_reader;
 mod step;
+mod transcript;
+mod turn;
 mod world;
 mod line_reader;
 mod output;

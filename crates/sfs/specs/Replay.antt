@@ -1,0 +1,110 @@
+-- Replaying a schedule: what was written at each moment, and how it ends.
+use Rattle.std.specs.Prelude.{◌≡◌, ℕ, ◌+◌, ◌-◌, ◌<◌, ◌==◌, Bool, true, false, List, [], ◌∷◌, ◌++◌, length, map, count_by, Option, Some, None, Result, Ok, Err}
+use Rattle.sfs_base.specs.Fault.{Rose}
+use Rattle.schedule_text.specs.Stream.{Takes, Puts}
+use Rattle.schedule_text.specs.declared.line.Line.{Line}
+use Rattle.schedule_text.specs.declared.line.Line.TheVariants as line
+use Rattle.sfs.specs.declared.ending.Ending.{Ending}
+use Rattle.sfs.specs.declared.ending.Ending.TheVariants as ending
+use Rattle.sfs.specs.declared.replay.Replay.{Replay}
+use Rattle.sfs.specs.declared.stop.Stop.{Stop}
+use Rattle.sfs.specs.declared.stop.Stop.TheVariants.{ReadFault, WriteFault, NoMemory}
+use Rattle.sfs.specs.declared.turn.Turn.{Turn}
+use Rattle.sfs.specs.declared.turn.Turn.TheVariants as turn
+use Rattle.sfs.specs.declared.world.World.{World}
+use Rattle.sfs.specs.Output.{WritesFront}
+use Rattle.sfs.specs.Schedule.{Schedule, event_in, schedule_of}
+use Rattle.sfs.specs.ScheduleReader.{HasRead, FailsAfter}
+use Rattle.sfs.specs.Completes.{completes, reaches}
+use Rattle.sfs.specs.Book.{Book, opened, book_after, next_event}
+use Rattle.sfs.specs.Legal.{IsLegal, text_of}
+use Rattle.sfs.specs.World.{Stands, is_do}
+
+-- the sink's count rose where its fault is answered, and else stayed
+abbrev pub CountsWrites : {X : Type 0} → ℕ → ℕ → Result X Stop → Type 0
+CountsWrites before now (Ok x) = now ≡ before
+CountsWrites before now (Err ReadFault) = ⊥
+CountsWrites before now (Err WriteFault) = Rose before now
+CountsWrites before now (Err NoMemory) = now ≡ before
+
+-- the counts of the source and of the sink: the one whose fault is answered rose, and the other stayed
+abbrev pub Counts : {X : Type 0} → ℕ → ℕ → ℕ → ℕ → Result X Stop → Type 0
+Counts read read' written written' (Ok x) = (read' ≡ read) × (written' ≡ written)
+Counts read read' written written' (Err ReadFault) = Rose read read' × (written' ≡ written)
+Counts read read' written written' (Err WriteFault) = (read' ≡ read) × Rose written written'
+Counts read read' written written' (Err NoMemory) = (read' ≡ read) × (written' ≡ written)
+
+-- the book behind a transcript
+abbrev pub book_of : Schedule → List Line → Book
+book_of schedule lines = book_after schedule (opened schedule) lines
+
+-- where the schedule goes on so behind the lines that were read, the transcript is legal, the world is where it leaves it, and
+-- whether the schedule reaches its end is a matter of the lines behind them
+pub record Follows (done : List (List ℕ)) (lines : List Line) (w : World) (behind : Schedule) : Type 0 where
+  pub legal : IsLegal (map event_in done ++ behind) lines
+  pub stands : Stands (map event_in done ++ behind) (book_of (map event_in done ++ behind) lines) w
+  pub used : (book_of (map event_in done ++ behind) lines).lines ≡ length done
+  pub test : completes (map event_in done ++ behind) ≡ reaches w.tree.geometry (length done) behind
+
+-- a replay stands here: these lines were read of what the source had left at first, and the transcript is what the sink took
+pub record Stood (left left' held held' : Option (List ℕ)) (done : List (List ℕ)) (lines : List Line) (p : Replay) : Type 0 where
+  pub read : HasRead left left' done p.reader
+  pub put : Puts held held' (text_of lines)
+  pub follows : (behind : Schedule) → Follows done lines p.world behind
+  pub counted : p.world.arrivals + 1 ≡ length done
+  pub handled : count_by is_do lines + 1 ≡ length done
+
+-- where the source told its text, that holds of the schedule which it spells
+abbrev pub OfSchedule : Option (List ℕ) → (Schedule → Type 0) → Type 0
+OfSchedule left P = (text : List ℕ) → left ≡ Some text → P (schedule_of text)
+
+-- the transcript is legal, and it ends with this line, by which the schedule reaches its end or does not
+pub record Finishes (schedule : Schedule) (lines : List Line) (last : Line) (whole : Bool) : Type 0 where
+  pub legal : IsLegal schedule (lines ++ last ∷ [])
+  pub test : completes schedule ≡ whole
+
+-- how many lines end in some bytes
+abbrev pub line_ends : List ℕ → ℕ
+line_ends bytes = count_by (λ b. b == 10) bytes
+
+-- the source failed: the lines of all whole lines that were read were written
+pub record FailsToRead (left left' held held' : Option (List ℕ)) (lines : List Line) : Type 0 where
+  pub put : Puts held held' (text_of lines)
+  pub legal : OfSchedule left (λ schedule. IsLegal schedule lines)
+  pub taken : List ℕ
+  pub takes : Takes left left' taken
+  pub all : count_by is_do lines ≡ line_ends taken - 1
+
+-- a run ended before its time: a front of a legal transcript was written
+pub record BreaksOff (left held held' : Option (List ℕ)) (lines : List Line) : Type 0 where
+  pub rest : List ℕ
+  pub front : WritesFront held held' (text_of lines) rest
+  pub legal : OfSchedule left (λ schedule. IsLegal schedule lines)
+
+-- what was read and written where a run was stopped
+abbrev pub Stopped : Option (List ℕ) → Option (List ℕ) → Option (List ℕ) → Option (List ℕ) → Stop → Type 0
+Stopped left left' held held' ReadFault = (lines : List Line) × FailsToRead left left' held held' lines
+Stopped left left' held held' WriteFault = (lines : List Line) × BreaksOff left held held' lines
+Stopped left left' held held' NoMemory = (lines : List Line) × BreaksOff left held held' lines
+
+-- what was read and written where a run came to its end
+abbrev pub Came : Option (List ℕ) → Option (List ℕ) → Option (List ℕ) → Ending → Type 0
+Came left held held' ending.Ended =
+    (lines : List Line) × Puts held held' (text_of (lines ++ line.End ∷ [])) × OfSchedule left (λ schedule. Finishes schedule lines line.End true)
+Came left held held' ending.Refused =
+    (lines : List Line) × (number : ℕ) × Puts held held' (text_of (lines ++ line.Refused number ∷ [])) × OfSchedule left (λ schedule. Finishes schedule lines (line.Refused number) false)
+
+-- all of a replay
+abbrev pub Replays : Option (List ℕ) → Option (List ℕ) → Option (List ℕ) → Option (List ℕ) → Result Ending Stop → Type 0
+Replays left left' held held' (Ok ending) = Came left held held' ending
+Replays left left' held held' (Err stop) = Stopped left left' held held' stop
+
+-- one turn: an event was handled, or the next line ends the schedule or is refused
+abbrev pub Turns : Option (List ℕ) → Option (List ℕ) → Option (List ℕ) → Option (List ℕ) → List (List ℕ) → List Line → Replay → Result Turn Stop → Type 0
+Turns left left' held held' done lines new (Ok turn.On) =
+    (line : List ℕ) × (more : List Line) × Stood left left' held held' (done ++ line ∷ []) (lines ++ more) new
+Turns left left' held held' done lines new (Ok turn.Ended) =
+    Puts held held' (text_of lines) × OfSchedule left (λ schedule. Finishes schedule lines line.End true)
+Turns left left' held held' done lines new (Ok turn.Refused) =
+    Puts held held' (text_of lines) × OfSchedule left (λ schedule. Finishes schedule lines (line.Refused (length done + 1)) false)
+Turns left left' held held' done lines new (Err stop) = Stopped left left' held held' stop
