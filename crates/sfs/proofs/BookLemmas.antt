@@ -1,9 +1,11 @@
 -- Lines of a transcript that come one after another, and what the book of all of them is.
-use Rattle.std.proofs.Common.{◌≡◌, ℕ, zero, suc, ◌+◌, ◌-◌, ◌^◌, ◌<◌, ◌≤◌, Bool, true, false, cond, eqb, ltb, List, [], ◌∷◌, ◌++◌, length, get_or, Option, Some, None, refl, sym, ap, subst, ◌∙◌, append_assoc, arith}
+use Rattle.std.proofs.Common.{◌≡◌, ℕ, zero, suc, ◌+◌, ◌-◌, ◌^◌, ◌<◌, ◌≤◌, Bool, true, false, cond, eqb, ltb, List, [], ◌∷◌, ◌++◌, length, take, get_or, Option, Some, None, refl, sym, ap, subst, ◌∙◌, append_assoc, arith}
 use Rattle.std.specs.Prelude.{slice_get, position, option_map, option_and_then, is_some, Contains, All}
 use Rattle.std.specs.List.{flat_map}
 use Rattle.std.proofs.lemmas.Grind.{flat_map-append}
+use Rattle.std.proofs.lemmas.List.{append-nil, take_more}
 use Rattle.schedule_text.specs.declared.line.Line.{Line}
+use Rattle.schedule_text.specs.Grammar.{spelling_of_line}
 use Rattle.sfs.specs.Schedule.{Schedule}
 use Rattle.sfs.specs.Book.{Book, noted, book_after}
 use Rattle.sfs.specs.Legal.{IsLegalFrom, IsAllowed, text_of}
@@ -25,3 +27,10 @@ legal-append schedule book (l ∷ ls) more first second = (first.0, legal-append
 pub text-append : (ls more : List Line) → text_of (ls ++ more) ≡ text_of ls ++ text_of more
 unfolding text_of
 text-append ls more = flat_map-append _ ls more
+
+-- the text of one line more
+pub text-more : (ls : List Line) (k : ℕ) (d : Line) → k < length ls → text_of (take (k + 1) ls) ≡ text_of (take k ls) ++ (spelling_of_line (get_or ls k d) ++ 10 ∷ [])
+unfolding text_of
+text-more ls k d below =
+    ap text_of (take_more ls k d below) ∙ text-append (take k ls) (get_or ls k d ∷ [])
+    ∙ ap (λ (r : List ℕ). text_of (take k ls) ++ r) (append-nil (spelling_of_line (get_or ls k d) ++ 10 ∷ []))

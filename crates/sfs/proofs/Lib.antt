@@ -6,3 +6,4 @@ pub mod ReplyLemmas
 pub mod BookLemmas
 pub mod EventLemmas
 pub mod ScheduleLemmas
+pub mod ReplayLemmas

@@ -86,9 +86,9 @@ Turns old new taken ended (Ok None) = GoesOn old new taken
 Turns old new taken ended (Ok (Some found)) = (taken ≡ []) × Finds (old.line ++ old.pending) new ended (Ok found)
 Turns old new taken ended (Err stop) = (taken ≡ []) × Finds (old.line ++ old.pending) new ended (Err stop)
 
--- the source's count rose where its fault is answered, and else stayed
+-- the source's count rose where its fault is answered, and else stayed; a sink is not written to
 abbrev pub CountsReads : {X : Type 0} → ℕ → ℕ → Result X Stop → Type 0
 CountsReads before now (Ok x) = now ≡ before
 CountsReads before now (Err ReadFault) = Rose before now
-CountsReads before now (Err WriteFault) = now ≡ before
+CountsReads before now (Err WriteFault) = ⊥
 CountsReads before now (Err NoMemory) = now ≡ before

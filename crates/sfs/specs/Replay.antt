@@ -38,19 +38,19 @@ Counts read read' written written' (Err NoMemory) = (read' ≡ read) × (written
 abbrev pub book_of : Schedule → List Line → Book
 book_of schedule lines = book_after schedule (opened schedule) lines
 
--- where the schedule goes on so behind the lines that were read, the transcript is legal, the world is where it leaves it, and
--- whether the schedule reaches its end is a matter of the lines behind them
-pub record Follows (done : List (List ℕ)) (lines : List Line) (w : World) (behind : Schedule) : Type 0 where
-  pub legal : IsLegal (map event_in done ++ behind) lines
-  pub stands : Stands (map event_in done ++ behind) (book_of (map event_in done ++ behind) lines) w
-  pub used : (book_of (map event_in done ++ behind) lines).lines ≡ length done
-  pub test : completes (map event_in done ++ behind) ≡ reaches w.tree.geometry (length done) behind
+-- of a schedule so many lines were read, and these are behind them: the transcript is legal, the world is where it leaves it, and
+-- whether the schedule reaches its end is a matter of the lines behind
+pub record Follows (schedule : Schedule) (count : ℕ) (behind : Schedule) (lines : List Line) (w : World) : Type 0 where
+  pub legal : IsLegal schedule lines
+  pub stands : Stands schedule (book_of schedule lines) w
+  pub used : (book_of schedule lines).lines ≡ count
+  pub test : completes schedule ≡ reaches w.tree.geometry count behind
 
 -- a replay stands here: these lines were read of what the source had left at first, and the transcript is what the sink took
 pub record Stood (left left' held held' : Option (List ℕ)) (done : List (List ℕ)) (lines : List Line) (p : Replay) : Type 0 where
   pub read : HasRead left left' done p.reader
   pub put : Puts held held' (text_of lines)
-  pub follows : (behind : Schedule) → Follows done lines p.world behind
+  pub follows : (behind : Schedule) → Follows (map event_in done ++ behind) (length done) behind lines p.world
   pub counted : p.world.arrivals + 1 ≡ length done
   pub handled : count_by is_do lines + 1 ≡ length done
 
