@@ -7,3 +7,4 @@ pub mod BookLemmas
 pub mod EventLemmas
 pub mod ScheduleLemmas
 pub mod ReplayLemmas
+pub mod OpenLemmas

@@ -10,3 +10,5 @@ pub mod Completes
 pub mod World
 pub mod ScheduleReader
 pub mod Replay
+pub mod Status
+pub mod Run

@@ -108,3 +108,18 @@ Turns left left' held held' done lines new (Ok turn.Ended) =
 Turns left left' held held' done lines new (Ok turn.Refused) =
     Puts held held' (text_of lines) × OfSchedule left (λ schedule. Finishes schedule lines (line.Refused (length done + 1)) false)
 Turns left left' held held' done lines new (Err stop) = Stopped left left' held held' stop
+
+-- the opening of a replay: the first line was read, and it names a cluster
+abbrev pub Opens : Option (List ℕ) → Option (List ℕ) → Result (Option Replay) Stop → Type 0
+Opens left left' (Ok (Some p)) = (line : List ℕ) × ((held : Option (List ℕ)) → Stood left left' held held (line ∷ []) [] p)
+Opens left left' (Ok None) = OfSchedule left (λ schedule. Finishes schedule [] (line.Refused 1) false)
+Opens left left' (Err ReadFault) = FailsAfter left left' []
+Opens left left' (Err WriteFault) = ⊥
+Opens left left' (Err NoMemory) = Unit {0}
+
+-- a replay goes on: so many lines were read
+pub record Replaying (left left' held held' : Option (List ℕ)) (count : ℕ) (p : Replay) : Type 0 where
+  pub done : List (List ℕ)
+  pub lines : List Line
+  pub stood : Stood left left' held held' done lines p
+  pub read : length done ≡ count

@@ -5,6 +5,7 @@ mod ending;
 mod found;
 mod replay;
 mod reply;
+mod run;
 mod schedule_reader;
 mod step;
 mod transcript;
@@ -12,6 +13,7 @@ mod turn;
 mod world;
 mod line_reader;
 mod output;
+mod status;
 mod stop;
 
 fn main() {}

@@ -1,6 +1,10 @@
-ghost use Rattle.std.specs.Prelude.{◌≡◌, ◌<◌, ◌^◌, ◌-◌, ℕ, List, length, Option};
+ghost use Rattle.std.specs.Prelude.{◌≡◌, ◌<◌, ◌^◌, ◌-◌, ℕ, List, [], ◌∷◌, length, Option, OnOk, IfOk};
+ghost use Rattle.schedule_text.specs.Grammar.{HasLineSpelling};
 ghost use Rattle.schedule_text.specs.declared.limits.TheConstants.{MAX_LINES as most_lines};
 ghost use Rattle.schedule_text.specs.declared.line.Line.{Line};
+ghost use Rattle.sfs.specs.Legal.{text_of};
+ghost use Rattle.sfs.specs.Output.{WritesFront};
+ghost use Rattle.sfs.specs.Replay.{Counts, CountsWrites, Replays};
 
 use crate::ending::Ending;
 use crate::schedule_reader::ScheduleReader;
@@ -12,6 +16,51 @@ use crate::world::World;
 use schedule_text::{Line, MAX_LINES, Sink, Source};
 use std::alloc::Global;
 
+/// Replays a schedule, and writes its transcript: each line of the schedule is read, handled and answered
+/// before the next is read. It ends at the event that ends the schedule, or at the first line that is
+/// missing, outside the grammar, excluded or not built, which is refused by its number.
+/// [`Stop::ReadFault`]: the source failed. [`Stop::WriteFault`]: the sink failed. [`Stop::NoMemory`]: memory
+/// ran out. The rule is "The transcript" of docs/FORMATS.md.
+pub fn replay_schedule<S: Source, K: Sink>(
+    alloc: Global,
+    input: &mut S,
+    output: &mut K,
+) -> Result<Ending, Stop>
+    ensures counts { Counts (S.faults input.old) (S.faults input.new) (K.faults output.old) (K.faults output.new) result }
+    ensures replays { Replays (S.left input.old) (S.left input.new) (K.held output.old) (K.held output.new) result }
+{
+    let Some(mut replay) = Replay::open(alloc, input)? else {
+        return close(alloc, output, Line::Refused { line: 1 }, Ending::Refused);
+    };
+    for number in 2..=MAX_LINES {
+        match replay.turn(alloc, input, output)? {
+            Turn::On => {}
+            Turn::Ended => return close(alloc, output, Line::End, Ending::Ended),
+            Turn::Refused => {
+                return close(alloc, output, Line::Refused { line: number }, Ending::Refused);
+            }
+        }
+    }
+    let line = MAX_LINES + 1;
+    close(alloc, output, Line::Refused { line }, Ending::Refused)
+}
+
+// Writes the last line of a transcript.
+fn close<K: Sink>(
+    alloc: Global,
+    output: &mut K,
+    line: Line,
+    ending: Ending,
+) -> Result<Ending, Stop>
+    requires { HasLineSpelling line }
+    ensures counts { CountsWrites (K.faults output.old) (K.faults output.new) result }
+    ensures front { (rest : List ℕ) × WritesFront (K.held output.old) (K.held output.new) (text_of (line ∷ [])) rest × OnOk result (rest ≡ []) }
+    ensures ending { IfOk result (λ e. e ≡ ending) }
+{
+    write_lines(alloc, output, &[line])?;
+    Ok(ending)
+}
+
 /// A replay of a schedule: the schedule as far as it was read, and the world behind it.
 #[derive(Debug, Drop)]
 pub struct Replay {
@@ -20,7 +69,24 @@ pub struct Replay {
 }
 
 impl Replay {
-    ghost use Rattle.sfs.specs.Replay.{Counts, Stood, Turns};
+    ghost use Rattle.sfs.specs.LineReader.{CountsReads};
+    ghost use Rattle.sfs.specs.Replay.{Counts, Opens, Stood, Turns};
+
+    /// Reads the first line, and opens the world of the cluster that it names; `None` where it names none
+    /// within the limits.
+    pub fn open<S: Source>(alloc: Global, input: &mut S) -> Result<Option<Replay>, Stop>
+        ensures counts { CountsReads (S.faults input.old) (S.faults input.new) result }
+        ensures opens { Opens (S.left input.old) (S.left input.new) result }
+    {
+        let mut reader = ScheduleReader::new(alloc)?;
+        let Some(event) = reader.next_event(alloc, input)? else {
+            return Ok(None);
+        };
+        let Some(world) = World::open(alloc, &event)? else {
+            return Ok(None);
+        };
+        Ok(Some(Replay { reader, world }))
+    }
 
     /// Reads the next line, handles its event, and writes the lines of it.
     pub fn turn<S: Source, K: Sink>(
