@@ -8,3 +8,4 @@ pub mod EventLemmas
 pub mod ScheduleLemmas
 pub mod ReplayLemmas
 pub mod OpenLemmas
+pub mod RunLemmas

@@ -1,19 +1,60 @@
-//! The program `sfs`.
+//! The program `sfs`: it replays a schedule of arrivals over one plain file system, and writes the
+//! transcript.
+//!
+//! - [`run`]: the words of the command line, an input and an output, to a status.
+//! - `replay`, `turn`, `ending`: the turns of a replay; `transcript`, `output`: what it writes.
+//! - `schedule_reader`, `line_reader`, `found`: the schedule, line by line.
+//! - `world`, `step`: the plain world, and what an event makes of it; `reply`: the bytes of a reply.
+//! - `stop`, `status`: what ends a run.
+//! - `standard_input`, `standard_output`: the streams of the process.
 #![tactic(auto)]
 
 mod ending;
 mod found;
+mod line_reader;
+mod output;
 mod replay;
 mod reply;
 mod run;
 mod schedule_reader;
+mod standard_input;
+mod standard_output;
+mod status;
 mod step;
+mod stop;
 mod transcript;
 mod turn;
 mod world;
-mod line_reader;
-mod output;
-mod status;
-mod stop;
 
-fn main() {}
+use crate::run::run;
+use crate::standard_input::StandardInput;
+use crate::standard_output::StandardOutput;
+use crate::status::Status;
+use std::env;
+use std::io::ErrorKind;
+use std::process::ExitCode;
+
+fn main(rt: HostRuntime) -> ExitCode {
+    let status = run_words(&rt);
+    if status != Status::Done {
+        // Where standard error fails too, the exit status is all that is left to tell.
+        let _ = eprintln!(rt; "sfs: {status}");
+    }
+    ExitCode::from(status.code())
+}
+
+// Runs the program for the words behind its name. Words that are not UTF-8 are none that it knows.
+fn run_words(rt: &HostRuntime) -> Status {
+    let words = match env::args(rt) {
+        Ok(words) => words,
+        Err(error) if error.kind() == ErrorKind::OutOfMemory => return Status::NoMemory,
+        Err(_) => return Status::Usage,
+    };
+    let words: Vec<String> = match words.skip(1).collect(rt.alloc()) {
+        Ok(words) => words,
+        Err(_) => return Status::NoMemory,
+    };
+    let mut input = StandardInput::new(rt.stdin());
+    let mut output = StandardOutput::new(rt.stdout());
+    run(rt.alloc(), words.as_slice(), &mut input, &mut output)
+}

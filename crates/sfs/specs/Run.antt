@@ -1,0 +1,49 @@
+-- What a run of the program owes: what it wrote, which status it ends in, and which fault that names.
+use Rattle.std.specs.Prelude.{◌≡◌, ℕ, Bool, true, false, List, [], ◌∷◌, codes, Option}
+use Rattle.sfs_base.specs.Fault.{Rose}
+use Rattle.sfs.specs.declared.ending.Ending.TheVariants as ending
+use Rattle.sfs.specs.declared.status.Status.{Status}
+use Rattle.sfs.specs.declared.status.Status.TheVariants as status
+use Rattle.sfs.specs.declared.stop.Stop.TheVariants as stop
+use Rattle.sfs.specs.Replay.{Came, Stopped}
+
+-- the words are the one word `replay`, by the bytes of each
+abbrev pub AsksReplay : List (List ℕ) → Type 0
+AsksReplay words = words ≡ codes "replay" ∷ []
+
+-- what was written to a sink that tells it, for a source that tells its text: the lines of a legal transcript that ends in
+-- `end` (Done) or in `refused N` (Refused), or else the front of those lines that a run was stopped at; nothing for other words
+abbrev pub Transcribes : Option (List ℕ) → Option (List ℕ) → Option (List ℕ) → Option (List ℕ) → Status → Type 0
+Transcribes left left' held held' status.Done = Came left held held' ending.Ended
+Transcribes left left' held held' status.Differs = ⊥
+Transcribes left left' held held' status.Usage = (left' ≡ left) × (held' ≡ held)
+Transcribes left left' held held' status.Refused = Came left held held' ending.Refused
+Transcribes left left' held held' status.ReadFault = Stopped left left' held held' stop.ReadFault
+Transcribes left left' held held' status.WriteFault = Stopped left left' held held' stop.WriteFault
+Transcribes left left' held held' status.NoMemory = Stopped left left' held held' stop.NoMemory
+Transcribes left left' held held' status.DiskFault = ⊥
+Transcribes left left' held held' status.PortFault = ⊥
+
+-- the status of a replay in which no count rose: it follows from whether the schedule reaches its end, or memory ran out
+abbrev pub Decided : Bool → Status → Type 0
+Decided whole status.Done = whole ≡ true
+Decided whole status.Differs = ⊥
+Decided whole status.Usage = ⊥
+Decided whole status.Refused = whole ≡ false
+Decided whole status.ReadFault = ⊥
+Decided whole status.WriteFault = ⊥
+Decided whole status.NoMemory = Unit {0}
+Decided whole status.DiskFault = ⊥
+Decided whole status.PortFault = ⊥
+
+-- a fault is answered where the count of its object rose in this run, and the other count stayed; else both stayed
+abbrev pub Causes : ℕ → ℕ → ℕ → ℕ → Status → Type 0
+Causes read read' written written' status.Done = (read' ≡ read) × (written' ≡ written)
+Causes read read' written written' status.Differs = ⊥
+Causes read read' written written' status.Usage = (read' ≡ read) × (written' ≡ written)
+Causes read read' written written' status.Refused = (read' ≡ read) × (written' ≡ written)
+Causes read read' written written' status.ReadFault = Rose read read' × (written' ≡ written)
+Causes read read' written written' status.WriteFault = (read' ≡ read) × Rose written written'
+Causes read read' written written' status.NoMemory = (read' ≡ read) × (written' ≡ written)
+Causes read read' written written' status.DiskFault = ⊥
+Causes read read' written written' status.PortFault = ⊥
