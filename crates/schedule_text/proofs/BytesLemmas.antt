@@ -1,13 +1,13 @@
 -- Words that spell bytes, two hexadecimal digits each.
-use Rattle.std.proofs.Common.{◌≡◌, ℕ, zero, suc, ◌+◌, ◌-◌, ◌*◌, ◌/◌, ◌%◌, ◌<◌, ◌≤◌, ◌==◌, Bool, true, false, ◌&&◌, ◌||◌, not, cond, nat_le, nat_lt, List, [], ◌∷◌, length, slice_index, Option, Some, None, Result, Ok, Err, inl, inr, refl, sym, ap, ◌∙◌, arith}
+use Rattle.std.proofs.Common.{◌≡◌, ℕ, zero, suc, ◌+◌, ◌-◌, ◌*◌, ◌/◌, ◌%◌, ◌<◌, ◌≤◌, ◌==◌, Bool, true, false, ◌&&◌, ◌||◌, not, cond, nat_le, nat_lt, List, [], ◌∷◌, length, slice_index, Option, Some, None, Ok, inl, inr, refl, sym, ap, ◌∙◌, arith}
 use Rattle.std.specs.Prelude.{IsSome}
-use Rattle.std.specs.List.{list_all, AllPass}
+use Rattle.std.specs.List.{list_all}
 use Rattle.std.specs.Result.{result_ok}
-use Rattle.std.proofs.lemmas.Bool.{agree_below, agree_below_at, and_from, and_parts, cases_eq, eqb-true, le-leb, leb-true, ltb-true, or_cases, both_ways}
+use Rattle.std.proofs.lemmas.Bool.{agree_below_at, and_from, and_parts, cases_eq, eqb-true, le-leb, leb-true, ltb-true, or_cases}
 use Rattle.std.proofs.lemmas.Option.{same_Some}
 use Rattle.sfs_base.specs.Reading.{IsBytes}
-use Rattle.hex.specs.Hex.{decode_of, encode_lower, encode_with, is_hex_digit, lower_digits}
-use Rattle.hex.proofs.HexLemmas.{decode_of-encode_lower, decode_of-odd, decode_of-same, length-encode_with}
+use Rattle.hex.specs.Hex.{decode_of, encode_lower, encode_with, lower_digits}
+use Rattle.hex.proofs.HexLemmas.{decode_of-encode_lower, decode_of-odd, length-encode_with}
 use Rattle.schedule_text.specs.Words.{bytes_of, is_lower_hex_digit, IsDatagram}
 use Rattle.schedule_text.specs.declared.limits.TheConstants.{MAX_DATAGRAM_BYTES}
 
@@ -74,7 +74,7 @@ pairs_of (a ∷ b ∷ rest) even digits =
     )
 
 -- spelled bytes are digits
-digits_of_encode : (bytes : List ℕ) → IsBytes bytes → list_all is_lower_hex_digit (encode_lower bytes) ≡ true
+pub digits_of_encode : (bytes : List ℕ) → IsBytes bytes → list_all is_lower_hex_digit (encode_lower bytes) ≡ true
 unfolding encode_with
 digits_of_encode [] each = refl
 digits_of_encode (b ∷ rest) each =
@@ -115,14 +115,14 @@ bytes_of-Some word bytes read =
     let size : length word ≡ 2 * length found.0 = ap length found.1.spelled ∙ length-encode_with lower_digits found.0 in
     let some = leb-true 2 (length word) inner.0 in
     let within = leb-true (length word) (2 * MAX_DATAGRAM_BYTES) inner.1 in
-    rw (← same) (record { some = omega arith; within = omega arith; each = found.1.each }, found.1.spelled)
+    rw (← same) (record { size = record { some = omega arith; within = omega arith }; each = found.1.each }, found.1.spelled)
 
 -- the digits of a datagram spell it
 pub bytes_of-encode : (bytes : List ℕ) → IsDatagram bytes → bytes_of (encode_lower bytes) ≡ Some bytes
 bytes_of-encode bytes is =
     let digits = length-encode_with lower_digits bytes in
-    let some : 2 ≤ length (encode_lower bytes) = omega (arith, digits, is.some) in
-    let within : length (encode_lower bytes) ≤ 2 * MAX_DATAGRAM_BYTES = omega (arith, digits, is.within) in
+    let some : 2 ≤ length (encode_lower bytes) = omega (arith, digits, is.size.some) in
+    let within : length (encode_lower bytes) ≤ 2 * MAX_DATAGRAM_BYTES = omega (arith, digits, is.size.within) in
     rw (
       le-leb 2 (length (encode_lower bytes)) some,
       le-leb (length (encode_lower bytes)) (2 * MAX_DATAGRAM_BYTES) within,

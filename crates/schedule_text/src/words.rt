@@ -66,7 +66,11 @@ impl<'a> Words<'a> {
             (λ fault. (fault ≡ faults.Bad) × (after_word name.now self.old ≡ None)) }
     {
         let word = self.word()?;
-        if word == name { Ok(()) } else { Err(LineFault::Bad) }
+        if word == name {
+            Ok(())
+        } else {
+            Err(LineFault::Bad)
+        }
     }
 
     /// The value, where no word is left. Bad: one is.
@@ -140,8 +144,7 @@ fn u64_of(word: &[u8]) -> Option<u64>
 fn is_lower_hex(word: &[u8]) -> bool
     ensures { result ≡ list_all is_lower_hex_digit word.now }
 {
-    word.iter()
-        .all(|byte| byte.is_ascii_digit() || (b'a' <= *byte && *byte <= b'f'))
+    word.iter().all(|byte| byte.is_ascii_digit() || (b'a' <= *byte && *byte <= b'f'))
 }
 
 /// The bytes of a datagram that a word spells. Bad: it spells none. NoMemory: there is no memory for

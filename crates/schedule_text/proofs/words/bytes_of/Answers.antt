@@ -1,5 +1,5 @@
 -- Where only memory was missing, the word spells bytes.
-use Rattle.std.proofs.Common.{◌≡◌, sym, ◌∙◌, arith}
+use Rattle.std.proofs.Common.{sym, ◌∙◌, arith}
 use Rattle.schedule_text.proofs.BytesLemmas.{bytes_of-digits}
 use Rattle.schedule_text.proofs.words.bytes_of.Goals as goal
 
