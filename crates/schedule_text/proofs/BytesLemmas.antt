@@ -1,6 +1,5 @@
 -- Words that spell bytes, two hexadecimal digits each.
-use Rattle.std.proofs.Common.{◌≡◌, ℕ, zero, suc, ◌+◌, ◌-◌, ◌*◌, ◌/◌, ◌%◌, ◌<◌, ◌≤◌, ◌==◌, Bool, true, false, ◌&&◌, ◌||◌, not, cond, nat_le, nat_lt, List, [], ◌∷◌, length, slice_index, Option, Some, None, Ok, inl, inr, refl, sym, ap, ◌∙◌, arith}
-use Rattle.std.specs.Prelude.{IsSome}
+use Rattle.std.proofs.Common.{◌≡◌, ℕ, zero, suc, ◌+◌, ◌-◌, ◌*◌, ◌/◌, ◌%◌, ◌<◌, ◌≤◌, ◌==◌, Bool, true, false, ◌&&◌, ◌||◌, not, cond, nat_le, nat_lt, List, [], ◌∷◌, length, slice_index, Option, Some, None, Ok, Err, ◌⊎◌, inl, inr, refl, sym, ap, ◌∙◌, arith}
 use Rattle.std.specs.List.{list_all}
 use Rattle.std.specs.Result.{result_ok}
 use Rattle.std.proofs.lemmas.Bool.{agree_below_at, and_from, and_parts, cases_eq, eqb-true, le-leb, leb-true, ltb-true, or_cases}
@@ -8,6 +7,10 @@ use Rattle.std.proofs.lemmas.Option.{same_Some}
 use Rattle.sfs_base.specs.Reading.{IsBytes}
 use Rattle.hex.specs.Hex.{decode_of, encode_lower, encode_with, lower_digits}
 use Rattle.hex.proofs.HexLemmas.{decode_of-encode_lower, decode_of-odd, length-encode_with}
+use Rattle.hex.specs.declared.error.FromHexError.{FromHexError}
+use Rattle.hex.specs.declared.error.FromHexError.TheVariants.{InvalidHexCharacter, OddLength, InvalidStringLength, OutOfMemory}
+use Rattle.schedule_text.specs.Digits.{fault_of}
+use Rattle.schedule_text.specs.Reading.{Answers}
 use Rattle.schedule_text.specs.Words.{bytes_of, is_lower_hex_digit, IsDatagram}
 use Rattle.schedule_text.specs.declared.limits.TheConstants.{MAX_DATAGRAM_BYTES}
 
@@ -95,13 +98,28 @@ even_where_read word bytes read =
       | inr even ↦ omega arith
     ]
 
--- a word of an even number of digits, two for each byte of a datagram, spells them
-pub bytes_of-digits : (word : List ℕ) → 2 ≤ length word → length word ≤ 2 * MAX_DATAGRAM_BYTES
-    → list_all is_lower_hex_digit word ≡ true → (length word % 2 ≡ 1 → ⊥) → IsSome (bytes_of word)
-bytes_of-digits word some within digits even =
-    let found = pairs_of word (omega arith) digits in
-    let read : decode_of word ≡ Ok found.0 = ap decode_of found.1.spelled ∙ decode_of-encode_lower found.0 found.1.each in
-    rw (le-leb 2 (length word) some, le-leb (length word) (2 * MAX_DATAGRAM_BYTES) within, digits, read) refl
+-- where the digits of a word were refused, the word spells no bytes, or memory was missing for them
+pub bytes_of-refused : (word : List ℕ) (e : FromHexError) → 2 ≤ length word → length word ≤ 2 * MAX_DATAGRAM_BYTES
+    → list_all is_lower_hex_digit word ≡ true → (e ≡ OutOfMemory) ⊎ (decode_of word ≡ Err e)
+    → (length word % 2 ≡ 1 → e ≡ OddLength) → Answers {X = List ℕ} (Err (fault_of e)) (bytes_of word)
+bytes_of-refused word e some within digits refused odd =
+    rw (le-leb 2 (length word) some, le-leb (length word) (2 * MAX_DATAGRAM_BYTES) within, digits) (go e refused odd)
+  where
+    even_unless_odd : (length word % 2 ≡ 1 → OutOfMemory ≡ OddLength) → length word % 2 ≡ 0
+    even_unless_odd odd = elim (cases_eq (length word % 2) 1) [ inl is ↦ cc (odd is) | inr even ↦ omega arith ]
+
+    go : (e : FromHexError) → (e ≡ OutOfMemory) ⊎ (decode_of word ≡ Err e) → (length word % 2 ≡ 1 → e ≡ OddLength)
+        → Answers {X = List ℕ} (Err (fault_of e)) (result_ok (decode_of word))
+    go (InvalidHexCharacter c index) (inl none) odd = cc none
+    go (InvalidHexCharacter c index) (inr is) odd = rw is refl
+    go OddLength (inl none) odd = cc none
+    go OddLength (inr is) odd = rw is refl
+    go InvalidStringLength (inl none) odd = cc none
+    go InvalidStringLength (inr is) odd = rw is refl
+    go OutOfMemory refused odd =
+        let found = pairs_of word (even_unless_odd odd) digits in
+        let read : decode_of word ≡ Ok found.0 = ap decode_of found.1.spelled ∙ decode_of-encode_lower found.0 found.1.each in
+        rw read refl
 
 -- a word that spells bytes is their digits
 pub bytes_of-Some : (word bytes : List ℕ) → bytes_of word ≡ Some bytes → IsDatagram bytes × (word ≡ encode_lower bytes)

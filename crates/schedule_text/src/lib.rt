@@ -5,7 +5,7 @@
 //! two grammars: words divided by one space, with one spelling for each value. [`write_line`] and
 //! [`write_out`] give that spelling, [`append_line`] and [`append_out`] put it at the end of a buffer.
 //! That each spelling is read as its value and nothing else is read are laws, carried by the
-//! functions of `laws`.
+//! functions of `laws`. The grammars are stated in `specs/Grammar.antt`, as the words of each line.
 //!
 //! [`Source`] and [`Sink`] are the two objects of the outside that a program reads from and writes
 //! to. Each counts its faults, and may tell its bytes. [`PlanSource`] and [`PlanSink`] are both in

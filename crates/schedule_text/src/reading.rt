@@ -12,9 +12,9 @@ use crate::names;
 use crate::words::Words;
 use std::alloc::Global;
 
-#[tactic(auto, unfolding(crate::specs::Reading::event_of))]
 /// Reads a line of a schedule, without its newline. Bad: the line is outside the grammar. NoMemory:
 /// the line is in the grammar, and there is no memory for the bytes that it spells.
+#[tactic(auto, unfolding(crate::specs::Reading::event_of))]
 pub fn read_line(alloc: Global, text: &[u8]) -> Result<Event, LineFault>
     ensures found { IfOk result (λ event. event_of text.now ≡ Some event) }
     ensures spelled { IfOk result (λ event. HasEventSpelling event × (text.now ≡ spelling_of_event event)) }
@@ -71,9 +71,9 @@ fn arrive_of(alloc: Global, words: &mut Words<'_>) -> Result<Event, LineFault>
     })
 }
 
-#[tactic(auto, unfolding(crate::specs::Reading::line_of))]
 /// Reads a line of a transcript, without its newline. Bad: the line is outside the grammar. NoMemory:
 /// the line is in the grammar, and there is no memory for the bytes that it spells.
+#[tactic(auto, unfolding(crate::specs::Reading::line_of))]
 pub fn read_out(alloc: Global, text: &[u8]) -> Result<Line, LineFault>
     ensures found { IfOk result (λ line. line_of text.now ≡ Some line) }
     ensures spelled { IfOk result (λ line. HasLineSpelling line × (text.now ≡ spelling_of_line line)) }

@@ -7,14 +7,18 @@ fn a_source_gives_its_bytes(rt: HostRuntime) -> Result<(), Fail> {
     let failing = Calls::from_slice(rt.alloc(), &[2])?;
     let mut source = PlanSource::new(bytes, failing).in_pieces(3);
     let mut piece = [0u8; 4];
-    assert_eq!(rt; source.read(&mut piece), Ok(3));
-    assert_eq!(rt; piece.as_slice(), b"abc\0".as_slice());
-    assert_eq!(rt; source.read(&mut piece), Err(Failed));
-    assert_eq!(rt; source.faults(), 1);
-    assert_eq!(rt; source.bytes(), b"de".as_slice());
-    assert_eq!(rt; source.read(&mut piece), Ok(2));
-    assert_eq!(rt; piece.as_slice(), b"dec\0".as_slice());
-    assert_eq!(rt; source.read(&mut piece), Ok(0));
+    let calls = [
+        (Ok(3), b"abc\0".as_slice(), b"de".as_slice(), 0),
+        (Err(Failed), b"abc\0".as_slice(), b"de".as_slice(), 1),
+        (Ok(2), b"dec\0".as_slice(), b"".as_slice(), 1),
+        (Ok(0), b"dec\0".as_slice(), b"".as_slice(), 1),
+    ];
+    for (answer, given, left, faults) in calls {
+        assert_eq!(rt; source.read(&mut piece), answer);
+        assert_eq!(rt; piece.as_slice(), given);
+        assert_eq!(rt; source.bytes(), left);
+        assert_eq!(rt; source.faults(), faults);
+    }
     Ok(())
 }
 
@@ -22,40 +26,44 @@ fn a_source_gives_its_bytes(rt: HostRuntime) -> Result<(), Fail> {
 fn a_sink_holds_what_it_took(rt: HostRuntime) -> Result<(), Fail> {
     let failing = Calls::from_slice(rt.alloc(), &[2])?;
     let mut sink = PlanSink::new(rt.alloc(), 5, failing)?.in_pieces(3);
-    assert_eq!(rt; sink.write(b"abcd"), Ok(3));
-    assert_eq!(rt; sink.write(b"d"), Err(Failed));
-    assert_eq!(rt; sink.write(b"def"), Err(Failed));
-    assert_eq!(rt; sink.write(b"de"), Ok(2));
-    assert_eq!(rt; sink.write(b""), Ok(0));
-    assert_eq!(rt; sink.write(b"f"), Err(Failed));
-    assert_eq!(rt; sink.faults(), 3);
-    assert_eq!(rt; sink.bytes(), b"abcde".as_slice());
+    let calls = [
+        (b"abcd".as_slice(), Ok(3), b"abc".as_slice(), 0),
+        (b"d".as_slice(), Err(Failed), b"abc".as_slice(), 1),
+        (b"def".as_slice(), Err(Failed), b"abc".as_slice(), 2),
+        (b"de".as_slice(), Ok(2), b"abcde".as_slice(), 2),
+        (b"".as_slice(), Ok(0), b"abcde".as_slice(), 2),
+        (b"f".as_slice(), Err(Failed), b"abcde".as_slice(), 3),
+    ];
+    for (piece, answer, held, faults) in calls {
+        assert_eq!(rt; sink.write(piece), answer);
+        assert_eq!(rt; sink.bytes(), held);
+        assert_eq!(rt; sink.faults(), faults);
+    }
     Ok(())
 }
 
 #[test]
 fn events_are_read_and_written(rt: HostRuntime) -> Result<(), Fail> {
-    let cluster = Event::Cluster {
-        nodes: 1,
-        memories: 8,
-        blocks: 16_384,
-        inodes: 4_294_967_295,
-    };
-    let arrive = Event::Arrive {
-        node: 3,
-        sec: 4_294_967_295,
-        usec: 0,
-        bytes: Bytes::from_slice(rt.alloc(), &[0, 1, 254, 255])?,
-    };
-    let events = vec![in rt.alloc();
-        (b"cluster 1 8 16384 4294967295".as_slice(), cluster),
-        (b"arrive 3 4294967295 0 0001feff".as_slice(), arrive),
-        (b"end".as_slice(), Event::End),
-    ]?;
-    for (text, event) in &events {
+    let schedule = b"cluster 1 8 16384 4294967295\narrive 3 4294967295 0 0001feff\nend";
+    let events = [
+        Event::Cluster {
+            nodes: 1,
+            memories: 8,
+            blocks: 16_384,
+            inodes: 4_294_967_295,
+        },
+        Event::Arrive {
+            node: 3,
+            sec: 4_294_967_295,
+            usec: 0,
+            bytes: Bytes::from_slice(rt.alloc(), &[0, 1, 254, 255])?,
+        },
+        Event::End,
+    ];
+    for (text, event) in schedule.split(|byte| *byte == b'\n').zip(&events) {
         let read = read_line(rt.alloc(), text)?;
         assert_eq!(rt; read, *event);
-        assert_eq!(rt; write_line(rt.alloc(), &read)?.as_slice(), *text);
+        assert_eq!(rt; write_line(rt.alloc(), &read)?.as_slice(), text);
     }
     Ok(())
 }
@@ -105,88 +113,61 @@ fn other_lines_are_no_events(rt: HostRuntime) {
 
 #[test]
 fn lines_are_read_and_written(rt: HostRuntime) -> Result<(), Fail> {
-    let lines = vec![in rt.alloc();
-        (
-            b"do arrive 1 0".as_slice(),
-            Line::DoArrive {
-                arrival: 1,
-                node: 0,
+    let transcript = b"do arrive 1 0\npoint 18446744073709551615 arrival 2 made 0 5\n\
+        point 1 arrival 4294967295 made 0 0\nreply 7 at 0 006b6c\ndropped 1 down\ndropped 2 silent\n\
+        dropped 3 full\ndropped 4 damaged 1 4096\nrefused 4294967296\nend\n";
+    let lines = [
+        Line::DoArrive {
+            arrival: 1,
+            node: 0,
+        },
+        Line::Point {
+            point: 18_446_744_073_709_551_615,
+            arrival: 2,
+            made: Some((0, 5)),
+        },
+        Line::Point {
+            point: 1,
+            arrival: 4_294_967_295,
+            made: None,
+        },
+        Line::Reply {
+            arrival: 7,
+            at: 0,
+            bytes: Bytes::from_slice(rt.alloc(), b"\x00kl")?,
+        },
+        Line::Dropped {
+            arrival: 1,
+            why: DropWhy::Down,
+        },
+        Line::Dropped {
+            arrival: 2,
+            why: DropWhy::Silent,
+        },
+        Line::Dropped {
+            arrival: 3,
+            why: DropWhy::Full,
+        },
+        Line::Dropped {
+            arrival: 4,
+            why: DropWhy::Damaged {
+                memory: 1,
+                at: 4096,
             },
-        ),
-        (
-            b"point 18446744073709551615 arrival 2 made 0 5".as_slice(),
-            Line::Point {
-                point: 18_446_744_073_709_551_615,
-                arrival: 2,
-                made: Some((0, 5)),
-            },
-        ),
-        (
-            b"point 1 arrival 4294967295 made 0 0".as_slice(),
-            Line::Point {
-                point: 1,
-                arrival: 4_294_967_295,
-                made: None,
-            },
-        ),
-        (
-            b"reply 7 at 0 006b6c".as_slice(),
-            Line::Reply {
-                arrival: 7,
-                at: 0,
-                bytes: Bytes::from_slice(rt.alloc(), b"\x00kl")?,
-            },
-        ),
-        (
-            b"dropped 1 down".as_slice(),
-            Line::Dropped {
-                arrival: 1,
-                why: DropWhy::Down,
-            },
-        ),
-        (
-            b"dropped 2 silent".as_slice(),
-            Line::Dropped {
-                arrival: 2,
-                why: DropWhy::Silent,
-            },
-        ),
-        (
-            b"dropped 3 full".as_slice(),
-            Line::Dropped {
-                arrival: 3,
-                why: DropWhy::Full,
-            },
-        ),
-        (
-            b"dropped 4 damaged 1 4096".as_slice(),
-            Line::Dropped {
-                arrival: 4,
-                why: DropWhy::Damaged {
-                    memory: 1,
-                    at: 4096,
-                },
-            },
-        ),
-        (
-            b"refused 4294967296".as_slice(),
-            Line::Refused {
-                line: 4_294_967_296,
-            },
-        ),
-        (b"end".as_slice(), Line::End),
-    ]?;
-    let mut all = Vec::new(rt.alloc());
-    for (text, line) in &lines {
+        },
+        Line::Refused {
+            line: 4_294_967_296,
+        },
+        Line::End,
+    ];
+    let mut written = Vec::new(rt.alloc());
+    for (text, line) in transcript.split(|byte| *byte == b'\n').zip(&lines) {
         let read = read_out(rt.alloc(), text)?;
         assert_eq!(rt; read, *line);
-        assert_eq!(rt; write_out(rt.alloc(), &read)?.as_slice(), *text);
-        all.clear();
-        all.extend_from_slice(b"end\n")?;
-        append_out(&mut all, &read)?;
-        assert_eq!(rt; all[..4], b"end\n"[..]);
-        assert_eq!(rt; all[4..], text[..]);
+        append_out(&mut written, &read)?;
+        written.push(b'\n')?;
     }
+    assert_eq!(rt; written.as_slice(), transcript.as_slice());
     Ok(())
 }
 
@@ -225,17 +206,9 @@ fn other_lines_are_no_lines(rt: HostRuntime) {
 
 #[test]
 fn the_longest_datagram_is_read(rt: HostRuntime) -> Result<(), Fail> {
-    let digits = vec![in rt.alloc(); b'7'; 2 * MAX_DATAGRAM_BYTES]?;
     let mut text = Vec::from_slice(rt.alloc(), b"reply 1 at 0 ")?;
-    text.extend_from_slice(&digits)?;
-    let bytes = vec![in rt.alloc(); 0x77; MAX_DATAGRAM_BYTES]?;
-    let reply = Line::Reply {
-        arrival: 1,
-        at: 0,
-        bytes: Bytes::from(bytes),
-    };
+    text.resize(13 + 2 * MAX_DATAGRAM_BYTES, b'7')?;
     let read = read_out(rt.alloc(), &text)?;
-    assert_eq!(rt; read, reply);
     assert_eq!(rt; write_out(rt.alloc(), &read)?.as_slice(), text.as_slice());
     text.extend_from_slice(b"77")?;
     assert_eq!(rt; read_out(rt.alloc(), &text), Err(LineFault::Bad));

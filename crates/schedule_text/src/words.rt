@@ -6,7 +6,6 @@ ghost use Rattle.schedule_text.specs.Reading.{Gives, Answers, word_at, number_at
 
 use crate::limits::MAX_DATAGRAM_BYTES;
 use crate::line_fault::LineFault;
-use hex::FromHexError;
 use sfs_base::Bytes;
 use std::alloc::Global;
 use std::marker::Model;
@@ -112,8 +111,8 @@ fn split_word(line: &[u8]) -> (&[u8], Option<&[u8]>)
     }
 }
 
-#[tactic(auto, using(crate::proofs::NumberLemmas::no_text_no_numeral))]
 /// The text of a word that may be a numeral: it has neither a sign nor a leading zero.
+#[tactic(auto, using(crate::proofs::NumberLemmas::no_text_no_numeral))]
 fn plain_text(word: &[u8]) -> Option<&str>
     ensures found { IfSome result (λ text. (text.now ≡ word.now) × (has_leading_zero word.now ≡ false)
         × (slice_index word.now 0 ≢ 43)) }
@@ -155,9 +154,5 @@ fn bytes_of(alloc: Global, word: &[u8]) -> Result<Bytes, LineFault>
     if word.len() < 2 || word.len() > 2 * MAX_DATAGRAM_BYTES || !is_lower_hex(word) {
         return Err(LineFault::Bad);
     }
-    match hex::decode(alloc, word) {
-        Ok(bytes) => Ok(Bytes::from(bytes)),
-        Err(FromHexError::OutOfMemory) => Err(LineFault::NoMemory),
-        Err(_) => Err(LineFault::Bad),
-    }
+    Ok(Bytes::from(hex::decode(alloc, word)?))
 }

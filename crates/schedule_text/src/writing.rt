@@ -14,8 +14,9 @@ use crate::word::Word;
 use sfs_base::NoMemory;
 use std::alloc::{AllocError, Global};
 
-/// Writes the line of an event at the end of `out`, without a newline. The event has a spelling.
-/// [`NoMemory`]: there is no memory for the line, and `out` holds what it held.
+/// Writes the line of an event at the end of `out`, without a newline. The bytes of the event are 1 to
+/// [`MAX_DATAGRAM_BYTES`](crate::MAX_DATAGRAM_BYTES). [`NoMemory`]: there is no memory for the line, and
+/// `out` holds what it held.
 #[tactic(auto, unfolding(crate::specs::Grammar::spelling_of_event, crate::specs::Grammar::event_words))]
 pub fn append_line(out: &mut Vec<u8>, event: &Event) -> Result<(), NoMemory>
     requires { IsWritableEvent event.now }
@@ -49,8 +50,8 @@ pub fn append_line(out: &mut Vec<u8>, event: &Event) -> Result<(), NoMemory>
     }
 }
 
-/// The line of an event, without a newline. The event has a spelling. [`NoMemory`]: there is no memory
-/// for the line.
+/// The line of an event, without a newline, as [`append_line`] writes it. [`NoMemory`]: there is no
+/// memory for the line.
 pub fn write_line(alloc: Global, event: &Event) -> Result<Vec<u8>, NoMemory>
     requires { IsWritableEvent event.now }
     ensures spelled { HasEventSpelling event.now }
@@ -86,8 +87,9 @@ fn append_arrive(
     )
 }
 
-/// Writes a line of a transcript at the end of `out`, without a newline. The line has a spelling.
-/// [`NoMemory`]: there is no memory for the line, and `out` holds what it held.
+/// Writes a line of a transcript at the end of `out`, without a newline. The bytes of the line are 1 to
+/// [`MAX_DATAGRAM_BYTES`](crate::MAX_DATAGRAM_BYTES), and its file is not the pair of two zeros, which
+/// stands for none. [`NoMemory`]: there is no memory for the line, and `out` holds what it held.
 #[tactic(auto, unfolding(crate::specs::Grammar::spelling_of_line, crate::specs::Grammar::line_words))]
 pub fn append_out(out: &mut Vec<u8>, line: &Line) -> Result<(), NoMemory>
     requires { IsWritableLine line.now }
@@ -119,7 +121,7 @@ pub fn append_out(out: &mut Vec<u8>, line: &Line) -> Result<(), NoMemory>
     }
 }
 
-/// A line of a transcript, without a newline. The line has a spelling. [`NoMemory`]: there is no
+/// A line of a transcript, without a newline, as [`append_out`] writes it. [`NoMemory`]: there is no
 /// memory for it.
 pub fn write_out(alloc: Global, line: &Line) -> Result<Vec<u8>, NoMemory>
     requires { IsWritableLine line.now }
