@@ -1,13 +1,16 @@
 -- Words that spell bytes, two hexadecimal digits each.
-use Rattle.std.proofs.Common.{◌≡◌, ℕ, zero, suc, ◌+◌, ◌-◌, ◌*◌, ◌/◌, ◌%◌, ◌<◌, ◌≤◌, ◌==◌, Bool, true, false, ◌&&◌, ◌||◌, not, cond, nat_le, nat_lt, List, [], ◌∷◌, length, slice_index, Option, Some, None, Result, Ok, Err, inl, inr, refl, sym, ap, ◌∙◌, arith}
-use Rattle.std.specs.Prelude.{IsSome}
-use Rattle.std.specs.List.{list_all, AllPass}
+use Rattle.std.proofs.Common.{◌≡◌, ℕ, zero, suc, ◌+◌, ◌-◌, ◌*◌, ◌/◌, ◌%◌, ◌<◌, ◌≤◌, ◌==◌, Bool, true, false, ◌&&◌, ◌||◌, not, cond, nat_le, nat_lt, List, [], ◌∷◌, length, slice_index, Option, Some, None, Ok, Err, ◌⊎◌, inl, inr, refl, sym, ap, ◌∙◌, arith}
+use Rattle.std.specs.List.{list_all}
 use Rattle.std.specs.Result.{result_ok}
-use Rattle.std.proofs.lemmas.Bool.{agree_below, agree_below_at, and_from, and_parts, cases_eq, eqb-true, le-leb, leb-true, ltb-true, or_cases, both_ways}
+use Rattle.std.proofs.lemmas.Bool.{agree_below_at, and_from, and_parts, cases_eq, eqb-true, le-leb, leb-true, ltb-true, or_cases}
 use Rattle.std.proofs.lemmas.Option.{same_Some}
 use Rattle.sfs_base.specs.Reading.{IsBytes}
-use Rattle.hex.specs.Hex.{decode_of, encode_lower, encode_with, is_hex_digit, lower_digits}
-use Rattle.hex.proofs.HexLemmas.{decode_of-encode_lower, decode_of-odd, decode_of-same, length-encode_with}
+use Rattle.hex.specs.Hex.{decode_of, encode_lower, encode_with, lower_digits}
+use Rattle.hex.proofs.HexLemmas.{decode_of-encode_lower, decode_of-odd, length-encode_with}
+use Rattle.hex.specs.declared.error.FromHexError.{FromHexError}
+use Rattle.hex.specs.declared.error.FromHexError.TheVariants.{InvalidHexCharacter, OddLength, InvalidStringLength, OutOfMemory}
+use Rattle.schedule_text.specs.Digits.{fault_of}
+use Rattle.schedule_text.specs.Reading.{Answers}
 use Rattle.schedule_text.specs.Words.{bytes_of, is_lower_hex_digit, IsDatagram}
 use Rattle.schedule_text.specs.declared.limits.TheConstants.{MAX_DATAGRAM_BYTES}
 
@@ -74,7 +77,7 @@ pairs_of (a ∷ b ∷ rest) even digits =
     )
 
 -- spelled bytes are digits
-digits_of_encode : (bytes : List ℕ) → IsBytes bytes → list_all is_lower_hex_digit (encode_lower bytes) ≡ true
+pub digits_of_encode : (bytes : List ℕ) → IsBytes bytes → list_all is_lower_hex_digit (encode_lower bytes) ≡ true
 unfolding encode_with
 digits_of_encode [] each = refl
 digits_of_encode (b ∷ rest) each =
@@ -95,13 +98,28 @@ even_where_read word bytes read =
       | inr even ↦ omega arith
     ]
 
--- a word of an even number of digits, two for each byte of a datagram, spells them
-pub bytes_of-digits : (word : List ℕ) → 2 ≤ length word → length word ≤ 2 * MAX_DATAGRAM_BYTES
-    → list_all is_lower_hex_digit word ≡ true → (length word % 2 ≡ 1 → ⊥) → IsSome (bytes_of word)
-bytes_of-digits word some within digits even =
-    let found = pairs_of word (omega arith) digits in
-    let read : decode_of word ≡ Ok found.0 = ap decode_of found.1.spelled ∙ decode_of-encode_lower found.0 found.1.each in
-    rw (le-leb 2 (length word) some, le-leb (length word) (2 * MAX_DATAGRAM_BYTES) within, digits, read) refl
+-- where the digits of a word were refused, the word spells no bytes, or memory was missing for them
+pub bytes_of-refused : (word : List ℕ) (e : FromHexError) → 2 ≤ length word → length word ≤ 2 * MAX_DATAGRAM_BYTES
+    → list_all is_lower_hex_digit word ≡ true → (e ≡ OutOfMemory) ⊎ (decode_of word ≡ Err e)
+    → (length word % 2 ≡ 1 → e ≡ OddLength) → Answers {X = List ℕ} (Err (fault_of e)) (bytes_of word)
+bytes_of-refused word e some within digits refused odd =
+    rw (le-leb 2 (length word) some, le-leb (length word) (2 * MAX_DATAGRAM_BYTES) within, digits) (go e refused odd)
+  where
+    even_unless_odd : (length word % 2 ≡ 1 → OutOfMemory ≡ OddLength) → length word % 2 ≡ 0
+    even_unless_odd odd = elim (cases_eq (length word % 2) 1) [ inl is ↦ cc (odd is) | inr even ↦ omega arith ]
+
+    go : (e : FromHexError) → (e ≡ OutOfMemory) ⊎ (decode_of word ≡ Err e) → (length word % 2 ≡ 1 → e ≡ OddLength)
+        → Answers {X = List ℕ} (Err (fault_of e)) (result_ok (decode_of word))
+    go (InvalidHexCharacter c index) (inl none) odd = cc none
+    go (InvalidHexCharacter c index) (inr is) odd = rw is refl
+    go OddLength (inl none) odd = cc none
+    go OddLength (inr is) odd = rw is refl
+    go InvalidStringLength (inl none) odd = cc none
+    go InvalidStringLength (inr is) odd = rw is refl
+    go OutOfMemory refused odd =
+        let found = pairs_of word (even_unless_odd odd) digits in
+        let read : decode_of word ≡ Ok found.0 = ap decode_of found.1.spelled ∙ decode_of-encode_lower found.0 found.1.each in
+        rw read refl
 
 -- a word that spells bytes is their digits
 pub bytes_of-Some : (word bytes : List ℕ) → bytes_of word ≡ Some bytes → IsDatagram bytes × (word ≡ encode_lower bytes)
@@ -115,14 +133,14 @@ bytes_of-Some word bytes read =
     let size : length word ≡ 2 * length found.0 = ap length found.1.spelled ∙ length-encode_with lower_digits found.0 in
     let some = leb-true 2 (length word) inner.0 in
     let within = leb-true (length word) (2 * MAX_DATAGRAM_BYTES) inner.1 in
-    rw (← same) (record { some = omega arith; within = omega arith; each = found.1.each }, found.1.spelled)
+    rw (← same) (record { size = record { some = omega arith; within = omega arith }; each = found.1.each }, found.1.spelled)
 
 -- the digits of a datagram spell it
 pub bytes_of-encode : (bytes : List ℕ) → IsDatagram bytes → bytes_of (encode_lower bytes) ≡ Some bytes
 bytes_of-encode bytes is =
     let digits = length-encode_with lower_digits bytes in
-    let some : 2 ≤ length (encode_lower bytes) = omega (arith, digits, is.some) in
-    let within : length (encode_lower bytes) ≤ 2 * MAX_DATAGRAM_BYTES = omega (arith, digits, is.within) in
+    let some : 2 ≤ length (encode_lower bytes) = omega (arith, digits, is.size.some) in
+    let within : length (encode_lower bytes) ≤ 2 * MAX_DATAGRAM_BYTES = omega (arith, digits, is.size.within) in
     rw (
       le-leb 2 (length (encode_lower bytes)) some,
       le-leb (length (encode_lower bytes)) (2 * MAX_DATAGRAM_BYTES) within,

@@ -5,3 +5,5 @@ pub mod BytesLemmas
 pub mod WritingLemmas
 pub mod ReadingLemmas
 pub mod EventLemmas
+pub mod LineLemmas
+pub mod SpellingLemmas

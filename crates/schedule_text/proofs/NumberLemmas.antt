@@ -1,8 +1,8 @@
 -- Words that are numerals.
-use Rattle.std.proofs.Common.{◌≡◌, ◌≢◌, ℕ, ◌+◌, ◌^◌, ◌<◌, ◌≤◌, ◌==◌, nat_lt, Bool, true, false, ◌&&◌, not, cond, List, [], ◌∷◌, length, get_or, Option, Some, None, Result, Ok, Err, inl, inr, refl, sym, ap, ◌∙◌, arith}
+use Rattle.std.proofs.Common.{◌≡◌, ◌≢◌, ℕ, ◌^◌, ◌<◌, ◌≤◌, nat_lt, true, false, ◌&&◌, not, List, [], ◌∷◌, length, get_or, Some, Result, Ok, Err, inl, inr, refl, sym, ap, arith}
 use Rattle.std.specs.Result.{result_ok}
 use Rattle.std.specs.Str.{all_ascii_digits, IsUtf8}
-use Rattle.std.specs.Str.Parse.{AllDigits, ParsesUnsigned, digits_value}
+use Rattle.std.specs.Str.Parse.{ParsesUnsigned, digits_value}
 use Rattle.std.specs.Fmt.{decimal}
 use Rattle.std.proofs.lemmas.Bool.{and_from, and_parts, cases_lt, eqb-false, false_from_ne_true, lt-ltb, ltb-true, ne_eqb, not-true, not_from_false}
 use Rattle.std.proofs.lemmas.Fmt.{decimal-digits_value, decimal_nonempty, digits_decimal, digits_value-decimal, first_decimal, decimal_digit, IsAscii-from_digits}
@@ -21,12 +21,14 @@ record IsNumeral (word : List ℕ) : Type 0 where
   digits : all_ascii_digits word ≡ true
   plain : has_leading_zero word ≡ false
 
+-- the parts of the test for a numeral
 numeral_parts : (word : List ℕ) → is_numeral word ≡ true → IsNumeral word
 numeral_parts word is =
     let front = and_parts (nat_lt 0 (length word) && all_ascii_digits word) (not (has_leading_zero word)) is in
     let first = and_parts (nat_lt 0 (length word)) (all_ascii_digits word) front.0 in
     record { some = ltb-true 0 (length word) first.0; digits = first.1; plain = not-true (has_leading_zero word) front.1 }
 
+-- the test for a numeral, from its parts
 numeral_from : (word : List ℕ) → IsNumeral word → is_numeral word ≡ true
 numeral_from word is =
     and_from (nat_lt 0 (length word) && all_ascii_digits word) (not (has_leading_zero word))
@@ -36,7 +38,7 @@ numeral_from word is =
 -- a word that is no text is no numeral
 pub no_text_no_numeral : (word : List ℕ) → (IsUtf8 word → ⊥) → is_numeral word ≡ false
 no_text_no_numeral word none = false_from_ne_true (is_numeral word) (λ is.
-  none (IsUtf8-from_ascii word (IsAscii-from_digits word (own.to word (numeral_parts word is).digits))))
+    none (IsUtf8-from_ascii word (IsAscii-from_digits word (own.to word (numeral_parts word is).digits))))
 
 -- what parsing a word without a sign or a leading zero gives is the number that it spells
 pub number_of-parse : {E : Type 0} (bits : ℕ) (word : List ℕ) (r : Result ℕ E) → has_leading_zero word ≡ false
@@ -48,9 +50,9 @@ number_of-parse {E = E} bits word (Ok n) plain unsigned parsed =
 number_of-parse {E = E} bits word (Err e) plain unsigned parsed =
     let is = parse_plain own {E = E} bits word (Err e) parsed unsigned in
     let no = false_from_ne_true (is_numeral word && nat_lt (digits_value 10 word) (2 ^ bits)) (λ both.
-      let parts = and_parts (is_numeral word) (nat_lt (digits_value 10 word) (2 ^ bits)) both in
-      let numeral = numeral_parts word parts.0 in
-      is (numeral.digits, numeral.some, ltb-true (digits_value 10 word) (2 ^ bits) parts.1)) in
+    let parts = and_parts (is_numeral word) (nat_lt (digits_value 10 word) (2 ^ bits)) both in
+    let numeral = numeral_parts word parts.0 in
+    is (numeral.digits, numeral.some, ltb-true (digits_value 10 word) (2 ^ bits) parts.1)) in
     rw no refl
 
 -- a zero that is the first digit of a numeral is the only one
@@ -89,6 +91,13 @@ pub number_of-decimal : (bits n : ℕ) → 2 ^ bits ≤ 2 ^ 64 → n < 2 ^ bits 
 number_of-decimal bits n wide below =
     let small : n < 2 ^ 64 = omega arith in
     let numeral = numeral_from (decimal n) (record {
-      some = decimal_nonempty n small; digits = digits_decimal own n small; plain = plain_decimal n small }) in
+      some = decimal_nonempty n small;
+      digits = digits_decimal own n small;
+      plain = plain_decimal n small;
+    }) in
     let value = digits_value-decimal own n small in
     rw (numeral, value, lt-ltb n (2 ^ bits) below) refl
+
+-- the decimal of a number is of digits
+pub digits_of_decimal : (n : ℕ) → n < 2 ^ 64 → all_ascii_digits (decimal n) ≡ true
+digits_of_decimal n below = digits_decimal own n below

@@ -1,15 +1,15 @@
 -- What reading one word says of the words.
-use Rattle.std.proofs.Common.{◌≡◌, ℕ, ◌+◌, ◌^◌, ◌<◌, ◌≤◌, Bool, true, false, cond, List, [], ◌∷◌, length, Option, Some, None, refl, sym, ap, ◌∙◌, arith}
+use Rattle.std.proofs.Common.{◌≡◌, ℕ, ◌^◌, ◌<◌, ◌≤◌, Bool, true, false, cond, List, [], ◌∷◌, Option, Some, None, refl, ap, ◌∙◌}
 use Rattle.std.specs.Option.{option_map}
 use Rattle.std.specs.Str.{bytes_eq}
 use Rattle.std.specs.Fmt.{decimal}
 use Rattle.std.proofs.lemmas.Option.{same_Some}
 use Rattle.std.proofs.lemmas.Slice.Eq.{bytes_eq-Decides}
 use Rattle.hex.specs.Hex.{encode_lower}
-use Rattle.schedule_text.specs.Words.{number_of, bytes_of, IsDatagram}
+use Rattle.schedule_text.specs.Words.{number_of, IsDatagram}
 use Rattle.schedule_text.specs.Reading.{◌>>=◌, number_at, after_word, last_bytes, at_end}
 use Rattle.schedule_text.proofs.NumberLemmas.{number_of-Some, number_of-decimal}
-use Rattle.schedule_text.proofs.BytesLemmas.{bytes_of-Some, bytes_of-encode}
+use Rattle.schedule_text.proofs.BytesLemmas.{bytes_of-Some}
 
 -- a first step that led to a value
 pub bind_some : {A B : Type 0} (o : Option A) (f : A → Option B) (y : B) → (o >>= f) ≡ Some y
@@ -27,7 +27,7 @@ by_name name word x y z is here there = go (bytes_eq word name) x y z is (λ met
     go true x y z is here there = here refl is
     go false x y z is here there = there is
 
--- a number was read, and then what led to y
+-- a number was read, and what followed it led to y
 pub record NumberStep {B : Type 0} (bits : ℕ) (words : List (List ℕ)) (f : ℕ × List (List ℕ) → Option B) (y : B) : Type 0 where
   pub number : ℕ
   pub rest : List (List ℕ)
@@ -35,6 +35,7 @@ pub record NumberStep {B : Type 0} (bits : ℕ) (words : List (List ℕ)) (f : �
   pub words_are : words ≡ decimal number ∷ rest
   pub then : f (number, rest) ≡ Some y
 
+-- what a step that reads a number shows
 pub number_step : {B : Type 0} (bits : ℕ) (words : List (List ℕ)) (f : ℕ × List (List ℕ) → Option B) (y : B)
     → 2 ^ bits ≤ 2 ^ 64 → (number_at bits words >>= f) ≡ Some y → NumberStep bits words f y
 number_step bits [] f y wide read = cc read
@@ -64,12 +65,13 @@ pub number_at-decimal : (bits n : ℕ) (rest : List (List ℕ)) → 2 ^ bits ≤
     → number_at bits (decimal n ∷ rest) ≡ Some (n, rest)
 number_at-decimal bits n rest wide below = ap (option_map (λ (m : ℕ). (m, rest))) (number_of-decimal bits n wide below)
 
--- a name was met, and then what led to y
+-- a name was read, and what followed it led to y
 pub record NameStep {B : Type 0} (name : List ℕ) (words : List (List ℕ)) (f : List (List ℕ) → Option B) (y : B) : Type 0 where
   pub rest : List (List ℕ)
   pub words_are : words ≡ name ∷ rest
   pub then : f rest ≡ Some y
 
+-- what a step that reads a name shows
 pub name_step : {B : Type 0} (name : List ℕ) (words : List (List ℕ)) (f : List (List ℕ) → Option B) (y : B)
     → (after_word name words >>= f) ≡ Some y → NameStep name words f y
 name_step name [] f y read = cc read

@@ -1,7 +1,8 @@
 -- The lines of a schedule and of a transcript: the words of each.
-use Rattle.std.specs.Prelude.{ℕ, ◌+◌, ◌^◌, ◌<◌, List, [], ◌∷◌, ◌++◌, codes, decimal, Option, Some, None}
+use Rattle.std.specs.Prelude.{ℕ, ◌+◌, ◌^◌, ◌<◌, List, [], ◌∷◌, codes, decimal, Option, Some, None}
+use Rattle.sfs_base.specs.Reading.{IsBytes}
 use Rattle.hex.specs.Hex.{encode_lower}
-use Rattle.schedule_text.specs.Words.{line_of_words, IsDatagram}
+use Rattle.schedule_text.specs.Words.{text_of_words, HasDatagramLength}
 use Rattle.schedule_text.specs.declared.event.Event.{Event}
 use Rattle.schedule_text.specs.declared.event.Event.TheVariants as event
 use Rattle.schedule_text.specs.declared.line.Line.{Line}
@@ -19,25 +20,30 @@ event_words event.End = codes "end" ∷ []
 
 -- the line of an event
 unfoldable pub spelling_of_event : Event → List ℕ
-spelling_of_event e = line_of_words (event_words e)
+spelling_of_event e = text_of_words (event_words e)
 
--- an event that has a line: its numbers are within their types, and its bytes are those of a datagram
-abbrev pub HasEventSpelling : Event → Type 0
-HasEventSpelling (event.Cluster nodes memories blocks inodes) =
+-- the numbers and bytes of an event are within their types, as those of each value in a program are
+abbrev pub IsTypedEvent : Event → Type 0
+IsTypedEvent (event.Cluster nodes memories blocks inodes) =
     (nodes < 2 ^ 32) × (memories < 2 ^ 32) × (blocks < 2 ^ 32) × (inodes < 2 ^ 32)
-HasEventSpelling (event.Arrive node sec usec bytes) =
-    (node < 2 ^ 32) × (sec < 2 ^ 32) × (usec < 2 ^ 32) × IsDatagram bytes
-HasEventSpelling event.End = Unit {0}
+IsTypedEvent (event.Arrive node sec usec bytes) = (node < 2 ^ 32) × (sec < 2 ^ 32) × (usec < 2 ^ 32) × IsBytes bytes
+IsTypedEvent event.End = Unit {0}
+
+-- an event that can be written: its bytes are as many as a datagram has
+abbrev pub IsWritableEvent : Event → Type 0
+IsWritableEvent (event.Cluster nodes memories blocks inodes) = Unit {0}
+IsWritableEvent (event.Arrive node sec usec bytes) = HasDatagramLength bytes
+IsWritableEvent event.End = Unit {0}
+
+-- an event that has a spelling
+pub record HasEventSpelling (e : Event) : Type 0 where
+  pub typed : IsTypedEvent e
+  pub writable : IsWritableEvent e
 
 -- the words of the file that a change made: two zeros where it made none
 abbrev pub made_words : Option (ℕ × ℕ) → List (List ℕ)
 made_words None = decimal 0 ∷ decimal 0 ∷ []
 made_words (Some file) = decimal file.0 ∷ decimal file.1 ∷ []
-
--- a file has a spelling where it is not the pair of two zeros
-abbrev pub HasMadeSpelling : Option (ℕ × ℕ) → Type 0
-HasMadeSpelling None = Unit {0}
-HasMadeSpelling (Some file) = (file.0 < 2 ^ 32) × (file.1 < 2 ^ 32) × (0 < file.0 + file.1)
 
 -- the words of a cause
 abbrev pub why_words : DropWhy → List (List ℕ)
@@ -45,13 +51,6 @@ why_words Down = codes "down" ∷ []
 why_words Silent = codes "silent" ∷ []
 why_words Full = codes "full" ∷ []
 why_words (Damaged memory at) = codes "damaged" ∷ decimal memory ∷ decimal at ∷ []
-
--- a cause has a spelling where its numbers are within their types
-abbrev pub HasWhySpelling : DropWhy → Type 0
-HasWhySpelling Down = Unit {0}
-HasWhySpelling Silent = Unit {0}
-HasWhySpelling Full = Unit {0}
-HasWhySpelling (Damaged memory at) = (memory < 2 ^ 32) × (at < 2 ^ 32)
 
 -- the words of a line of a transcript
 unfoldable pub line_words : Line → List (List ℕ)
@@ -66,14 +65,44 @@ line_words line.End = codes "end" ∷ []
 
 -- a line of a transcript, spelled
 unfoldable pub spelling_of_line : Line → List ℕ
-spelling_of_line l = line_of_words (line_words l)
+spelling_of_line l = text_of_words (line_words l)
 
--- a line that has a spelling: its numbers are within their types, its bytes are those of a datagram, and
--- the file that it names is not the pair of two zeros
-abbrev pub HasLineSpelling : Line → Type 0
-HasLineSpelling (line.DoArrive arrival node) = (arrival < 2 ^ 32) × (node < 2 ^ 32)
-HasLineSpelling (line.Point point arrival made) = (point < 2 ^ 64) × (arrival < 2 ^ 32) × HasMadeSpelling made
-HasLineSpelling (line.Reply arrival at bytes) = (arrival < 2 ^ 32) × (at < 2 ^ 64) × IsDatagram bytes
-HasLineSpelling (line.Dropped arrival why) = (arrival < 2 ^ 32) × HasWhySpelling why
-HasLineSpelling (line.Refused number) = number < 2 ^ 64
-HasLineSpelling line.End = Unit {0}
+-- the numbers of a file are within their types
+abbrev pub IsTypedFile : Option (ℕ × ℕ) → Type 0
+IsTypedFile None = Unit {0}
+IsTypedFile (Some file) = (file.0 < 2 ^ 32) × (file.1 < 2 ^ 32)
+
+-- the numbers of a cause are within their types
+abbrev pub IsTypedWhy : DropWhy → Type 0
+IsTypedWhy Down = Unit {0}
+IsTypedWhy Silent = Unit {0}
+IsTypedWhy Full = Unit {0}
+IsTypedWhy (Damaged memory at) = (memory < 2 ^ 32) × (at < 2 ^ 32)
+
+-- the numbers and bytes of a line are within their types, as those of each value in a program are
+abbrev pub IsTypedLine : Line → Type 0
+IsTypedLine (line.DoArrive arrival node) = (arrival < 2 ^ 32) × (node < 2 ^ 32)
+IsTypedLine (line.Point point arrival made) = (point < 2 ^ 64) × (arrival < 2 ^ 32) × IsTypedFile made
+IsTypedLine (line.Reply arrival at bytes) = (arrival < 2 ^ 32) × (at < 2 ^ 64) × IsBytes bytes
+IsTypedLine (line.Dropped arrival why) = (arrival < 2 ^ 32) × IsTypedWhy why
+IsTypedLine (line.Refused number) = number < 2 ^ 64
+IsTypedLine line.End = Unit {0}
+
+-- a file that can be written is not the pair of two zeros, which stands for none
+abbrev pub IsWritableFile : Option (ℕ × ℕ) → Type 0
+IsWritableFile None = Unit {0}
+IsWritableFile (Some file) = 0 < file.0 + file.1
+
+-- a line that can be written: its bytes are as many as a datagram has, and its file can be written
+abbrev pub IsWritableLine : Line → Type 0
+IsWritableLine (line.DoArrive arrival node) = Unit {0}
+IsWritableLine (line.Point point arrival made) = IsWritableFile made
+IsWritableLine (line.Reply arrival at bytes) = HasDatagramLength bytes
+IsWritableLine (line.Dropped arrival why) = Unit {0}
+IsWritableLine (line.Refused number) = Unit {0}
+IsWritableLine line.End = Unit {0}
+
+-- a line that has a spelling
+pub record HasLineSpelling (l : Line) : Type 0 where
+  pub typed : IsTypedLine l
+  pub writable : IsWritableLine l

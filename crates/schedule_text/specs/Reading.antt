@@ -1,5 +1,5 @@
 -- What a line says: reading it word by word from the left.
-use Rattle.std.specs.Prelude.{◌≡◌, ℕ, ◌+◌, ◌==◌, Bool, if◌then◌else◌, List, [], ◌∷◌, codes, Option, Some, None, IsSome, Result, Ok, Err}
+use Rattle.std.specs.Prelude.{◌≡◌, ℕ, ◌+◌, ◌==◌, if◌then◌else◌, List, [], ◌∷◌, codes, Option, Some, None, IsSome, Result, Ok, Err}
 use Rattle.std.specs.Option.{option_map}
 use Rattle.std.specs.Str.{bytes_eq}
 use Rattle.schedule_text.specs.Words.{words_of, number_of, bytes_of}
@@ -44,6 +44,7 @@ abbrev pub at_end : {X : Type 0} → X → List (List ℕ) → Option X
 at_end x [] = Some x
 at_end x (word ∷ rest) = None
 
+-- the cluster that the words after its name describe
 unfoldable pub cluster_of : List (List ℕ) → Option Event
 cluster_of words = do
   nodes ← number_at 32 words
@@ -52,6 +53,7 @@ cluster_of words = do
   inodes ← number_at 32 blocks.1
   at_end (event.Cluster nodes.0 memories.0 blocks.0 inodes.0) inodes.1
 
+-- the arrival that the words after its name describe
 unfoldable pub arrive_of : List (List ℕ) → Option Event
 arrive_of words = do
   node ← number_at 32 words
@@ -73,6 +75,7 @@ event_of_words (name ∷ words) =
 unfoldable pub event_of : List ℕ → Option Event
 event_of text = event_of_words (words_of text)
 
+-- the arrival that is handled, by the words after `do`
 unfoldable pub do_arrive_of : List (List ℕ) → Option Line
 do_arrive_of words = do
   rest ← after_word (codes "arrive") words
@@ -84,6 +87,7 @@ do_arrive_of words = do
 abbrev pub made_of : ℕ → ℕ → Option (ℕ × ℕ)
 made_of f g = if f + g == 0 then None else Some (f, g)
 
+-- the change that the words after its name describe
 unfoldable pub point_of : List (List ℕ) → Option Line
 point_of words = do
   point ← number_at 64 words
@@ -94,6 +98,7 @@ point_of words = do
   second ← number_at 32 first.1
   at_end (line.Point point.0 arrival.0 (made_of first.0 second.0)) second.1
 
+-- the reply that the words after its name describe
 unfoldable pub reply_of : List (List ℕ) → Option Line
 reply_of words = do
   arrival ← number_at 32 words
@@ -102,12 +107,14 @@ reply_of words = do
   bytes ← last_bytes at.1
   Some (line.Reply arrival.0 at.0 bytes)
 
+-- the damage that the words after its name describe
 unfoldable pub damaged_of : List (List ℕ) → Option DropWhy
 damaged_of words = do
   memory ← number_at 32 words
   at ← number_at 32 memory.1
   at_end (Damaged memory.0 at.0) at.1
 
+-- the cause that the words spell
 unfoldable pub why_of : List (List ℕ) → Option DropWhy
 why_of [] = None
 why_of (name ∷ words) =
@@ -117,21 +124,23 @@ why_of (name ∷ words) =
     else if bytes_eq name (codes "damaged") then damaged_of words
     else None
 
+-- the arrival without a reply that the words after its name describe
 unfoldable pub dropped_of : List (List ℕ) → Option Line
 dropped_of words = do
   arrival ← number_at 32 words
   why ← why_of arrival.1
   Some (line.Dropped arrival.0 why)
 
+-- the refusal that the words after its name describe
 unfoldable pub refused_of : List (List ℕ) → Option Line
 refused_of words = do
   number ← number_at 64 words
   at_end (line.Refused number.0) number.1
 
 -- the line of a transcript of which these are the words
-unfoldable pub transcript_line_of_words : List (List ℕ) → Option Line
-transcript_line_of_words [] = None
-transcript_line_of_words (name ∷ words) =
+unfoldable pub line_of_words : List (List ℕ) → Option Line
+line_of_words [] = None
+line_of_words (name ∷ words) =
     if bytes_eq name (codes "do") then do_arrive_of words
     else if bytes_eq name (codes "point") then point_of words
     else if bytes_eq name (codes "reply") then reply_of words
@@ -142,7 +151,7 @@ transcript_line_of_words (name ∷ words) =
 
 -- the line of a transcript that the text spells
 unfoldable pub line_of : List ℕ → Option Line
-line_of text = transcript_line_of_words (words_of text)
+line_of text = line_of_words (words_of text)
 
 -- a reader of words gave what reading gives of the words that were left, and the words after it are left
 abbrev pub Gives : {X Y : Type 0} → (X → Y) → Result X LineFault → List (List ℕ) → Option (Y × List (List ℕ)) → Type 0

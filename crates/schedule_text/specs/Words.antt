@@ -1,5 +1,5 @@
 -- The words of a line, and what one word spells.
-use Rattle.std.specs.Prelude.{ℕ, ◌+◌, ◌*◌, ◌^◌, ◌<◌, ◌≤◌, ◌==◌, nat_le, nat_lt, Bool, true, false, ◌&&◌, ◌||◌, not, if◌then◌else◌, List, [], ◌∷◌, length, Option, Some, None}
+use Rattle.std.specs.Prelude.{ℕ, ◌*◌, ◌^◌, ◌<◌, ◌≤◌, ◌==◌, nat_le, nat_lt, Bool, false, ◌&&◌, ◌||◌, not, if◌then◌else◌, List, [], ◌∷◌, length, Option, Some, None}
 use Rattle.std.specs.Borrow.{Bor}
 use Rattle.std.specs.Char.{is_ascii_digit}
 use Rattle.std.specs.List.{slice_split, join_with_byte, list_all}
@@ -19,8 +19,8 @@ abbrev pub words_of : List ℕ → List (List ℕ)
 words_of text = slice_split (λ byte. byte == space) text
 
 -- the line of these words, with one space between two
-abbrev pub line_of_words : List (List ℕ) → List ℕ
-line_of_words words = join_with_byte space words
+abbrev pub text_of_words : List (List ℕ) → List ℕ
+text_of_words words = join_with_byte space words
 
 -- a zero stands before another byte
 abbrev pub has_leading_zero : List ℕ → Bool
@@ -48,10 +48,14 @@ bytes_of word =
     then result_ok (decode_of word)
     else None
 
--- the bytes of a datagram: 1 to 65,535 of them
-pub record IsDatagram (bytes : List ℕ) : Type 0 where
+-- as many bytes as a datagram has: 1 to 65,535
+pub record HasDatagramLength (bytes : List ℕ) : Type 0 where
   pub some : 0 < length bytes
   pub within : length bytes ≤ MAX_DATAGRAM_BYTES
+
+-- the bytes of a datagram
+pub record IsDatagram (bytes : List ℕ) : Type 0 where
+  pub size : HasDatagramLength bytes
   pub each : IsBytes bytes
 
 -- the words that are left: none, or those of the rest of the line

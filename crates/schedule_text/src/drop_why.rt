@@ -3,7 +3,7 @@
 pub enum DropWhy {
     /// The node is down.
     Down,
-    /// The datagram wants no reply.
+    /// The datagram is one that gets no reply.
     Silent,
     /// As many arrivals wait as a node keeps.
     Full,

@@ -5,7 +5,10 @@ use sfs_base::Bytes;
 #[derive(Clone, Debug, PartialEq, Eq, Drop)]
 pub enum Line {
     /// An arrival is handled: its number, and the node that it came to.
-    DoArrive { arrival: u32, node: u32 },
+    DoArrive {
+        arrival: u32,
+        node: u32,
+    },
     /// The file system changed: the number of the change, the arrival that made it, and the number and
     /// generation of the file that it made, if it made one.
     Point {
@@ -20,9 +23,14 @@ pub enum Line {
         bytes: Bytes,
     },
     /// An arrival has no reply.
-    Dropped { arrival: u32, why: DropWhy },
+    Dropped {
+        arrival: u32,
+        why: DropWhy,
+    },
     /// The schedule is refused: the number of the line that is at fault.
-    Refused { line: u64 },
+    Refused {
+        line: u64,
+    },
     /// The schedule was read to its end.
     End,
 }

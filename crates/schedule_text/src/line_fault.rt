@@ -1,7 +1,7 @@
 ghost use Rattle.std.specs.Prelude.{◌≡◌};
-ghost use Rattle.schedule_text.specs.declared.line_fault.LineFault.TheVariants as faults;
+ghost use Rattle.schedule_text.specs.Digits.{fault_of};
 
-use std::alloc::{AllocError, AllocFailed};
+use hex::FromHexError;
 use std::error::Error;
 use std::fmt;
 
@@ -25,18 +25,13 @@ impl fmt::Display for LineFault {
 
 impl Error for LineFault {}
 
-impl From<AllocError> for LineFault {
-    ghost from_gives = { λ _ fault. fault ≡ faults.NoMemory };
+impl From<FromHexError> for LineFault {
+    ghost from_gives = { λ refusal fault. fault ≡ fault_of refusal };
 
-    fn from(_error: AllocError) -> LineFault {
-        LineFault::NoMemory
-    }
-}
-
-impl<T: Drop> From<AllocFailed<T>> for LineFault {
-    ghost from_gives = { λ _ fault. fault ≡ faults.NoMemory };
-
-    fn from(_error: AllocFailed<T>) -> LineFault {
-        LineFault::NoMemory
+    fn from(refusal: FromHexError) -> LineFault {
+        match refusal {
+            FromHexError::OutOfMemory => LineFault::NoMemory,
+            _ => LineFault::Bad,
+        }
     }
 }

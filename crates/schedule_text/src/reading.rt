@@ -1,6 +1,7 @@
 //! Reading a line, word by word from the left.
 ghost use Rattle.std.specs.Prelude.{◌≡◌, ◌↔◌, Some, None, Err, IfOk, IsErrOf};
-ghost use Rattle.schedule_text.specs.Reading.{Answers, event_of, event_of_words, cluster_of, arrive_of, line_of, transcript_line_of_words, do_arrive_of, point_of, made_of, reply_of, damaged_of, why_of, dropped_of, refused_of};
+ghost use Rattle.schedule_text.specs.Grammar.{HasEventSpelling, spelling_of_event, HasLineSpelling, spelling_of_line};
+ghost use Rattle.schedule_text.specs.Reading.{Answers, event_of, event_of_words, cluster_of, arrive_of, line_of, line_of_words, do_arrive_of, point_of, made_of, reply_of, damaged_of, why_of, dropped_of, refused_of};
 ghost use Rattle.schedule_text.specs.declared.line_fault.LineFault.TheVariants as faults;
 
 use crate::drop_why::DropWhy;
@@ -11,11 +12,12 @@ use crate::names;
 use crate::words::Words;
 use std::alloc::Global;
 
-#[tactic(auto, unfolding(crate::specs::Reading::event_of))]
 /// Reads a line of a schedule, without its newline. Bad: the line is outside the grammar. NoMemory:
 /// the line is in the grammar, and there is no memory for the bytes that it spells.
+#[tactic(auto, unfolding(crate::specs::Reading::event_of))]
 pub fn read_line(alloc: Global, text: &[u8]) -> Result<Event, LineFault>
     ensures found { IfOk result (λ event. event_of text.now ≡ Some event) }
+    ensures spelled { IfOk result (λ event. HasEventSpelling event × (text.now ≡ spelling_of_event event)) }
     ensures bad { (result ≡ Err faults.Bad) ↔ (event_of text.now ≡ None) }
 {
     event_of(alloc, &mut Words::new(text))
@@ -69,19 +71,20 @@ fn arrive_of(alloc: Global, words: &mut Words<'_>) -> Result<Event, LineFault>
     })
 }
 
-#[tactic(auto, unfolding(crate::specs::Reading::line_of))]
 /// Reads a line of a transcript, without its newline. Bad: the line is outside the grammar. NoMemory:
 /// the line is in the grammar, and there is no memory for the bytes that it spells.
+#[tactic(auto, unfolding(crate::specs::Reading::line_of))]
 pub fn read_out(alloc: Global, text: &[u8]) -> Result<Line, LineFault>
     ensures found { IfOk result (λ line. line_of text.now ≡ Some line) }
+    ensures spelled { IfOk result (λ line. HasLineSpelling line × (text.now ≡ spelling_of_line line)) }
     ensures bad { (result ≡ Err faults.Bad) ↔ (line_of text.now ≡ None) }
 {
     line_of(alloc, &mut Words::new(text))
 }
 
-#[tactic(auto, unfolding(crate::specs::Reading::transcript_line_of_words))]
+#[tactic(auto, unfolding(crate::specs::Reading::line_of_words))]
 fn line_of(alloc: Global, words: &mut Words<'_>) -> Result<Line, LineFault>
-    ensures { Answers result (transcript_line_of_words words.old) }
+    ensures { Answers result (line_of_words words.old) }
 {
     let name = words.word()?;
     if name == names::DO {

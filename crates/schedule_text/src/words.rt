@@ -6,7 +6,6 @@ ghost use Rattle.schedule_text.specs.Reading.{Gives, Answers, word_at, number_at
 
 use crate::limits::MAX_DATAGRAM_BYTES;
 use crate::line_fault::LineFault;
-use hex::FromHexError;
 use sfs_base::Bytes;
 use std::alloc::Global;
 use std::marker::Model;
@@ -66,7 +65,11 @@ impl<'a> Words<'a> {
             (λ fault. (fault ≡ faults.Bad) × (after_word name.now self.old ≡ None)) }
     {
         let word = self.word()?;
-        if word == name { Ok(()) } else { Err(LineFault::Bad) }
+        if word == name {
+            Ok(())
+        } else {
+            Err(LineFault::Bad)
+        }
     }
 
     /// The value, where no word is left. Bad: one is.
@@ -108,8 +111,8 @@ fn split_word(line: &[u8]) -> (&[u8], Option<&[u8]>)
     }
 }
 
-#[tactic(auto, using(crate::proofs::NumberLemmas::no_text_no_numeral))]
 /// The text of a word that may be a numeral: it has neither a sign nor a leading zero.
+#[tactic(auto, using(crate::proofs::NumberLemmas::no_text_no_numeral))]
 fn plain_text(word: &[u8]) -> Option<&str>
     ensures found { IfSome result (λ text. (text.now ≡ word.now) × (has_leading_zero word.now ≡ false)
         × (slice_index word.now 0 ≢ 43)) }
@@ -140,8 +143,7 @@ fn u64_of(word: &[u8]) -> Option<u64>
 fn is_lower_hex(word: &[u8]) -> bool
     ensures { result ≡ list_all is_lower_hex_digit word.now }
 {
-    word.iter()
-        .all(|byte| byte.is_ascii_digit() || (b'a' <= *byte && *byte <= b'f'))
+    word.iter().all(|byte| byte.is_ascii_digit() || (b'a' <= *byte && *byte <= b'f'))
 }
 
 /// The bytes of a datagram that a word spells. Bad: it spells none. NoMemory: there is no memory for
@@ -152,9 +154,5 @@ fn bytes_of(alloc: Global, word: &[u8]) -> Result<Bytes, LineFault>
     if word.len() < 2 || word.len() > 2 * MAX_DATAGRAM_BYTES || !is_lower_hex(word) {
         return Err(LineFault::Bad);
     }
-    match hex::decode(alloc, word) {
-        Ok(bytes) => Ok(Bytes::from(bytes)),
-        Err(FromHexError::OutOfMemory) => Err(LineFault::NoMemory),
-        Err(_) => Err(LineFault::Bad),
-    }
+    Ok(Bytes::from(hex::decode(alloc, word)?))
 }

@@ -1,9 +1,13 @@
--- Where only memory was missing, the word spells bytes.
-use Rattle.std.proofs.Common.{◌≡◌, sym, ◌∙◌, arith}
-use Rattle.schedule_text.proofs.BytesLemmas.{bytes_of-digits}
+-- Where the digits were refused, the word spells no bytes, or memory was missing for them.
+use Rattle.std.proofs.Common.{sym, ◌∙◌, arith}
+use Rattle.std.proofs.lemmas.Result.{err_from_is_err_and}
+use Rattle.schedule_text.proofs.BytesLemmas.{bytes_of-refused}
 use Rattle.schedule_text.proofs.words.bytes_of.Goals as goal
 
-pub returns-in-Err-OutOfMemory : goal.returns-in-Err-OutOfMemory
-returns-in-Err-OutOfMemory c =
-    bytes_of-digits c.args.word.now (omega arith) (omega arith)
-    (sym c.is_lower_hex.ensures ∙ c.if-not-is_lower_hex.false) (λ odd. cc (c.decode.ensures.odd odd, c.in-Err-OutOfMemory.is))
+pub returns-in_err-decode : goal.returns-in_err-decode
+returns-in_err-decode c =
+    let passed = err_from_is_err_and c.from_residual.result c.from_residual.ensures.1 in
+    let refused = c.in_err-decode.ensures in
+    rw (passed.1, passed.2)
+    (bytes_of-refused c.args.word.now c.in_err-decode.field-0.0 (omega arith) (omega arith)
+    (sym c.is_lower_hex.ensures ∙ c.if-not-is_lower_hex.false) refused.err (λ odd. cc (refused.odd odd)))

@@ -1,7 +1,6 @@
 -- The first space is where the first word ends.
-use Rattle.std.proofs.Common.{length, ℕ, ◌-◌, ◌+◌, List, ◌∷◌, drop, ap, ◌∙◌, sym}
+use Rattle.std.proofs.Common.{◌+◌, ◌∙◌, sym}
 use Rattle.std.proofs.lemmas.List.{take_rest}
-use Rattle.schedule_text.specs.Words.{words_of}
 use Rattle.schedule_text.proofs.WordsLemmas.{words_of-space, words_of-one}
 use Rattle.schedule_text.proofs.words.split_word.Goals as goal
 

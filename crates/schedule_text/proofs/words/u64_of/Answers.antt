@@ -1,5 +1,5 @@
 -- What parsing gives is the number that the word spells.
-use Rattle.std.proofs.Common.{◌≡◌, sym, ◌∙◌}
+use Rattle.std.proofs.Common.{◌∙◌}
 use Rattle.schedule_text.proofs.NumberLemmas.{number_of-parse}
 use Rattle.schedule_text.proofs.words.u64_of.Goals as goal
 
