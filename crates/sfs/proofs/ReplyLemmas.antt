@@ -37,8 +37,7 @@ reply_sized xid answer =
     let body = length-words (answer_words answer) in
     let both = length-append (words (head xid)) (words (answer_words answer)) in
     record {
-      some = omega (arith, front, body, both);
-      within = omega (arith, front, body, both, few_words answer);
+      size = record { some = omega (arith, front, body, both); within = omega (arith, front, body, both, few_words answer) };
       each = IsBytes-append (words (head xid)) (words (answer_words answer)) (words_bytes (head xid)) (words_bytes (answer_words answer));
     }
 

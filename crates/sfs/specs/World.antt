@@ -7,7 +7,7 @@ use Rattle.fs_tree.specs.Fresh.{fresh}
 use Rattle.schedule_text.specs.declared.event.Event.{Event}
 use Rattle.schedule_text.specs.declared.event.Event.TheVariants as event
 use Rattle.schedule_text.specs.declared.line.Line.{Line}
-use Rattle.schedule_text.specs.Grammar.{HasLineSpelling}
+use Rattle.schedule_text.specs.Grammar.{IsWritableLine}
 use Rattle.sfs.specs.declared.world.World.{World}
 use Rattle.sfs.specs.declared.step.Step.{Step}
 use Rattle.sfs.specs.declared.step.Step.TheVariants.{On, Ended, Refused}
@@ -58,7 +58,7 @@ Tells old new e Refused = (behind : Bool) → reached old.tree.geometry e behind
 
 -- the lines of a step have spellings
 abbrev pub HasSpellings : Step → Type 0
-HasSpellings (On lines) = AllByRecursion HasLineSpelling lines
+HasSpellings (On lines) = AllByRecursion IsWritableLine lines
 HasSpellings Ended = Unit {0}
 HasSpellings Refused = Unit {0}
 

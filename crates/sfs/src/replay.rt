@@ -1,5 +1,5 @@
 ghost use Rattle.std.specs.Prelude.{◌≡◌, ◌<◌, ◌^◌, ◌-◌, ℕ, List, [], ◌∷◌, length, Option, OnOk, IfOk};
-ghost use Rattle.schedule_text.specs.Grammar.{HasLineSpelling};
+ghost use Rattle.schedule_text.specs.Grammar.{IsWritableLine};
 ghost use Rattle.schedule_text.specs.declared.limits.TheConstants.{MAX_LINES as most_lines};
 ghost use Rattle.schedule_text.specs.declared.line.Line.{Line};
 ghost use Rattle.sfs.specs.Legal.{text_of};
@@ -52,7 +52,7 @@ fn close<K: Sink>(
     line: Line,
     ending: Ending,
 ) -> Result<Ending, Stop>
-    requires { HasLineSpelling line }
+    requires { IsWritableLine line }
     ensures counts { CountsWrites (K.faults output.old) (K.faults output.new) result }
     ensures front { (rest : List ℕ) × WritesFront (K.held output.old) (K.held output.new) (text_of (line ∷ [])) rest × OnOk result (rest ≡ []) }
     ensures ending { IfOk result (λ e. e ≡ ending) }

@@ -1,6 +1,6 @@
 ghost use Rattle.std.specs.Prelude.{◌≡◌, ℕ, List, [], ◌++◌, OnOk};
 ghost use Rattle.std.specs.List.{AllByRecursion};
-ghost use Rattle.schedule_text.specs.Grammar.{HasLineSpelling};
+ghost use Rattle.schedule_text.specs.Grammar.{IsWritableLine};
 ghost use Rattle.sfs.specs.Legal.{text_of};
 ghost use Rattle.sfs.specs.Output.{WritesFront};
 ghost use Rattle.sfs.specs.Replay.{CountsWrites};
@@ -16,7 +16,7 @@ const NEWLINE: u8 = 10;
 /// Writes lines of a transcript, each with its end. [`Stop::WriteFault`]: the sink failed, and holds the
 /// bytes that it took before. [`Stop::NoMemory`]: nothing was written.
 pub fn write_lines<K: Sink>(alloc: Global, output: &mut K, lines: &[Line]) -> Result<(), Stop>
-    requires { AllByRecursion HasLineSpelling lines.now }
+    requires { AllByRecursion IsWritableLine lines.now }
     ensures counts { CountsWrites (K.faults output.old) (K.faults output.new) result }
     ensures front { (rest : List ℕ) × WritesFront (K.held output.old) (K.held output.new) (text_of lines.now) rest × OnOk result (rest ≡ []) }
 {
@@ -27,7 +27,7 @@ pub fn write_lines<K: Sink>(alloc: Global, output: &mut K, lines: &[Line]) -> Re
 
 // Puts lines behind a text, each with its end.
 fn append_lines(text: &mut Vec<u8>, lines: &[Line]) -> Result<(), NoMemory>
-    requires { AllByRecursion HasLineSpelling lines.now }
+    requires { AllByRecursion IsWritableLine lines.now }
     ensures { OnOk result (text.new.items ≡ text.old.items ++ text_of lines.now) }
 {
     for line in lines {
