@@ -12,7 +12,7 @@ use std::alloc::Global;
 use std::marker::Model;
 
 /// What ends a line.
-const NEWLINE: u8 = 10;
+pub const NEWLINE: u8 = 10;
 
 /// The most bytes that are read at once.
 pub const PIECE_BYTES: usize = 4_096;

@@ -22,6 +22,8 @@ mod standard_output;
 mod status;
 mod step;
 mod stop;
+#[cfg(test)]
+mod tests;
 mod transcript;
 mod turn;
 mod world;

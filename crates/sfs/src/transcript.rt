@@ -5,13 +5,11 @@ ghost use Rattle.sfs.specs.Legal.{text_of};
 ghost use Rattle.sfs.specs.Output.{WritesFront};
 ghost use Rattle.sfs.specs.Replay.{CountsWrites};
 
+use crate::line_reader::NEWLINE;
 use crate::output::write_whole;
 use crate::stop::Stop;
 use schedule_text::{Line, NoMemory, Sink, append_out};
 use std::alloc::Global;
-
-/// What ends a line.
-const NEWLINE: u8 = 10;
 
 /// Writes lines of a transcript, each with its end. [`Stop::WriteFault`]: the sink failed, and holds the
 /// bytes that it took before. [`Stop::NoMemory`]: nothing was written.
