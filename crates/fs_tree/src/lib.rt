@@ -33,3 +33,6 @@ pub use rpc_msg::Cred;
 pub use sfs_base::{Bytes, NoMemory};
 pub use stamp::Stamp;
 pub use tree::{ROOT, Tree};
+
+#[cfg(test)]
+mod tests;

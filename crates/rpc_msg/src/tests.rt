@@ -12,6 +12,9 @@ const CALL: [u8; 72] = [
 fn the_one_call_is_told(rt: HostRuntime) {
     assert_eq!(rt; root_getattr(&CALL), Some(7));
     assert_eq!(rt; root_getattr(&CALL[..71]), None);
+    let mut longer = [0u8; 73];
+    longer[..72].copy_from_slice(&CALL);
+    assert_eq!(rt; root_getattr(&longer), None);
     for at in 4..CALL.len() {
         let mut other = CALL;
         other[at] ^= 1;

@@ -1,4 +1,4 @@
-use Rattle.std.proofs.Common.{length, eqb, ap, ◌∙◌, sym, arith, ℕ, List}
+use Rattle.std.proofs.Common.{length, ap, ◌∙◌, sym, arith, ℕ}
 use Rattle.std.proofs.lemmas.Bool.{eqb-true}
 use Rattle.sfs_xdr.proofs.ItemLemmas.{word_found}
 use Rattle.rpc_msg.specs.Messages.{root_getattr_behind}

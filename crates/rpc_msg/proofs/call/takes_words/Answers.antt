@@ -1,4 +1,4 @@
-use Rattle.std.proofs.Common.{◌≤◌, length, sym, ◌∙◌, arith}
+use Rattle.std.proofs.Common.{sym, ◌∙◌}
 use Rattle.rpc_msg.proofs.MessageLemmas.{words_step, words_refused, words_done}
 use Rattle.rpc_msg.proofs.call.takes_words.Goals as goal
 
