@@ -1,5 +1,5 @@
 -- Readers that go through bytes from left to right.
-use Rattle.std.specs.Prelude.{◌≡◌, ℕ, ◌<◌, List, [], ◌∷◌, ◌++◌, slice_index, Result, Ok, Err}
+use Rattle.std.specs.Prelude.{◌≡◌, ℕ, ◌<◌, List, ◌++◌, slice_index, Result, Ok, Err}
 
 -- every element is a byte
 abbrev pub IsBytes : List ℕ → Type 0

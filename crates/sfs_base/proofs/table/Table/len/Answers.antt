@@ -1,4 +1,4 @@
-use Rattle.std.proofs.Common.{ℕ, sym, ap, ◌∙◌}
+use Rattle.std.proofs.Common.{sym, ap, ◌∙◌}
 use Rattle.std.specs.FinMap.{len}
 use Rattle.sfs_base.proofs.TableLemmas.{len-from_entries}
 use Rattle.sfs_base.proofs.table.Table.len.Goals as goal

@@ -1,4 +1,4 @@
-use Rattle.std.proofs.Common.{ℕ, sym, ap, ◌∙◌}
+use Rattle.std.proofs.Common.{sym, ap, ◌∙◌}
 use Rattle.std.specs.FinMap.{get, remove}
 use Rattle.sfs_base.proofs.TableLemmas.{get_entry, entry_removed}
 use Rattle.sfs_base.proofs.table.Table.remove.Goals as goal
