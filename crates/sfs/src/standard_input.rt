@@ -1,6 +1,4 @@
-ghost use Rattle.std.specs.Prelude.{◌≡◌, None, length, take, IfOk, OnErr, ◌≤◌, ◌<◌};
-ghost use Rattle.sfs_base.specs.Fault.{HasCause};
-ghost use Rattle.schedule_text.specs.Stream.{Takes, IsAtEnd};
+ghost use Rattle.std.specs.Prelude.{◌≡◌, None};
 
 use schedule_text::{Failed, Source};
 use std::io::Read;
@@ -15,7 +13,9 @@ pub struct StandardInput {
 
 impl StandardInput {
     /// Standard input, of which no read failed so far.
-    pub fn new(stdin: Stdin) -> StandardInput {
+    pub fn new(stdin: Stdin) -> StandardInput
+        ensures { result ≡ record { stdin = stdin; faults = 0 } }
+    {
         StandardInput { stdin, faults: 0 }
     }
 }

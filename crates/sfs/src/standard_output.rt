@@ -1,4 +1,4 @@
-ghost use Rattle.std.specs.Prelude.{None};
+ghost use Rattle.std.specs.Prelude.{◌≡◌, None};
 
 use schedule_text::{Failed, Sink};
 use std::io::Write;
@@ -13,7 +13,9 @@ pub struct StandardOutput {
 
 impl StandardOutput {
     /// Standard output, of which no write failed so far.
-    pub fn new(stdout: Stdout) -> StandardOutput {
+    pub fn new(stdout: Stdout) -> StandardOutput
+        ensures { result ≡ record { stdout = stdout; faults = 0 } }
+    {
         StandardOutput { stdout, faults: 0 }
     }
 }

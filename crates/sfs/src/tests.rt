@@ -118,7 +118,8 @@ fn a_failed_read_ends_the_run_behind_the_whole_lines(rt: HostRuntime) -> Result<
         let mut output = sink(rt.alloc(), &[])?;
         let status = run(rt.alloc(), words.as_slice(), &mut input, &mut output);
         assert_eq!(rt; status, Status::ReadFault);
-        assert_eq!(rt; output.bytes(), &TRANSCRIPT[..written], "with read {call} failed");
+        assert_eq!(rt; output.bytes().len(), written, "with read {call} failed");
+        assert_eq!(rt; TRANSCRIPT.starts_with(output.bytes()), true, "with read {call} failed");
         assert_eq!(rt; (input.faults(), output.faults()), (1, 0));
     }
     Ok(())
