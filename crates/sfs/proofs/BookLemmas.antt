@@ -1,14 +1,12 @@
 -- Lines of a transcript that come one after another, and what the book of all of them is.
-use Rattle.std.proofs.Common.{◌≡◌, ℕ, zero, suc, ◌+◌, ◌-◌, ◌^◌, ◌<◌, ◌≤◌, Bool, true, false, cond, eqb, ltb, List, [], ◌∷◌, ◌++◌, length, take, get_or, Option, Some, None, refl, sym, ap, subst, ◌∙◌, append_assoc, arith}
-use Rattle.std.specs.Prelude.{slice_get, position, option_map, option_and_then, is_some, Contains, All}
-use Rattle.std.specs.List.{flat_map}
+use Rattle.std.proofs.Common.{◌≡◌, ℕ, ◌+◌, ◌<◌, List, [], ◌∷◌, ◌++◌, length, take, get_or, refl, ap, ◌∙◌}
 use Rattle.std.proofs.lemmas.Grind.{flat_map-append}
 use Rattle.std.proofs.lemmas.List.{append-nil, take_more}
 use Rattle.schedule_text.specs.declared.line.Line.{Line}
 use Rattle.schedule_text.specs.Grammar.{spelling_of_line}
 use Rattle.sfs.specs.Schedule.{Schedule}
 use Rattle.sfs.specs.Book.{Book, noted, book_after}
-use Rattle.sfs.specs.Legal.{IsLegalFrom, IsAllowed, text_of}
+use Rattle.sfs.specs.Legal.{IsLegalFrom, text_of}
 
 -- the book after lines and more lines
 pub book_after-append : (schedule : Schedule) (book : Book) (ls more : List Line) → book_after schedule book (ls ++ more) ≡ book_after schedule (book_after schedule book ls) more

@@ -1,10 +1,10 @@
 -- What one event of a schedule makes of the book and of the world.
-use Rattle.std.proofs.Common.{◌≡◌, ℕ, zero, suc, ◌+◌, ◌-◌, ◌^◌, ◌<◌, ◌≤◌, Bool, true, false, cond, not, ◌&&◌, eqb, ltb, List, [], ◌∷◌, ◌++◌, length, get_or, Option, Some, None, refl, sym, ap, subst, ◌∙◌, append_assoc, arith}
-use Rattle.std.specs.Prelude.{slice_get, position, option_map, option_and_then, is_some, Contains, All}
+use Rattle.std.proofs.Common.{◌≡◌, ℕ, zero, suc, ◌+◌, ◌-◌, ◌^◌, ◌<◌, ◌≤◌, Bool, true, false, cond, ◌&&◌, eqb, ltb, List, [], ◌∷◌, ◌++◌, length, get_or, Some, None, refl, sym, ap, subst, ◌∙◌, arith}
+use Rattle.std.specs.Prelude.{slice_get, position, option_map, option_and_then, is_some, All}
 use Rattle.std.specs.List.{position_or_len}
-use Rattle.std.proofs.lemmas.Bool.{ltb-false, le-ltb, eqb-true}
+use Rattle.std.proofs.lemmas.Bool.{le-ltb, eqb-true}
 use Rattle.std.proofs.lemmas.Bool.Decides.{Decides-ltb}
-use Rattle.std.proofs.lemmas.List.{length-append, length_push}
+use Rattle.std.proofs.lemmas.List.{length_push}
 use Rattle.std.proofs.lemmas.List.Elements.{All-contains, All-push, All-weaker}
 use Rattle.std.proofs.lemmas.List.Sums.{position_or_len_is}
 use Rattle.fs_tree.specs.declared.geometry.Geometry.{Geometry}
@@ -17,10 +17,10 @@ use Rattle.schedule_text.specs.declared.limits.TheConstants.{MAX_LINES}
 use Rattle.schedule_text.specs.declared.line.Line.{Line}
 use Rattle.schedule_text.specs.declared.line.Line.TheVariants as line
 use Rattle.sfs.specs.declared.world.World.{World}
-use Rattle.sfs.specs.Schedule.{Schedule, cluster_of}
+use Rattle.sfs.specs.Schedule.{Schedule}
 use Rattle.sfs.specs.Reply.{Request, heard, responded, reply}
-use Rattle.sfs.specs.Book.{Book, Arrival, numbered, point_of, last_tree, may_come, come_from, next_event, with_arrival, noted, book_after}
-use Rattle.sfs.specs.Legal.{IsAtRest, IsRunning, Arrives, Replies, HoldsAt, IsAllowed, IsLegalFrom}
+use Rattle.sfs.specs.Book.{Book, Arrival, numbered, point_of, may_come, come_from, next_event, with_arrival, noted, book_after}
+use Rattle.sfs.specs.Legal.{IsRunning, Arrives, Replies, HoldsAt, IsLegalFrom}
 use Rattle.sfs.specs.Completes.{reached}
 use Rattle.sfs.specs.World.{Stands, GoesOn}
 
@@ -95,12 +95,13 @@ no_place xs n most each above =
     let at_end : position_or_len (λ a. eqb a n) xs ≡ length xs =
     position_or_len_is (λ a. eqb a n) xs (length xs) 0 (omega arith) (λ k below. differs (get_or xs k 0) (each k 0 below)) (λ below. absurd (omega arith)) in
     ap (λ (p : ℕ). cond (ltb p (length xs)) (Some p) None) at_end ∙ ap (λ b. cond b (Some (length xs)) None) (le-ltb (length xs) (length xs) (omega arith))
-    where
-      is_false : (b : Bool) → (b ≡ true → ⊥) → b ≡ false
-      is_false true h = absurd (h refl)
-      is_false false h = refl
-      differs : (a : ℕ) → a ≤ most → eqb a n ≡ false
-      differs a low = is_false (eqb a n) (λ same. let e = eqb-true a n same in absurd (omega arith))
+  where
+    is_false : (b : Bool) → (b ≡ true → ⊥) → b ≡ false
+    is_false true h = absurd (h refl)
+    is_false false h = refl
+
+    differs : (a : ℕ) → a ≤ most → eqb a n ≡ false
+    differs a low = is_false (eqb a n) (λ same. let e = eqb-true a n same in absurd (omega arith))
 
 -- an arrival that was taken: its reply, and the world behind it
 pub record Answered (w after : World) (node : ℕ) (moment : Stamp) (bytes sent : List ℕ) : Type 0 where

@@ -1,15 +1,12 @@
 -- Lines in bytes, and the pieces in which they are read.
-use Rattle.std.proofs.Common.{◌≡◌, ℕ, zero, suc, ◌+◌, ◌-◌, ◌<◌, ◌≤◌, Bool, true, false, eqb, List, [], ◌∷◌, ◌++◌, length, get_or, take, drop, Option, Some, None, Ok, refl, sym, ap, subst, ◌∙◌, append_assoc, arith}
-use Rattle.std.specs.Prelude.{IsTrue}
-use Rattle.std.specs.List.{AllByRecursion}
-use Rattle.std.proofs.lemmas.Bool.{eqb-true, cases_lt}
-use Rattle.std.proofs.lemmas.List.{append-nil, take-append-drop, length-append, length-take, length-drop, get_or-take, drop_more, drop-drop, take_all, drop_all}
-use Rattle.memchr.specs.Find.{IsFirstByte, is_byte, Passes}
+use Rattle.std.proofs.Common.{◌≡◌, ℕ, suc, ◌+◌, ◌<◌, ◌≤◌, Bool, true, false, eqb, List, [], ◌∷◌, ◌++◌, length, get_or, take, drop, Some, None, Ok, refl, sym, ap, subst, ◌∙◌, arith}
+use Rattle.std.proofs.lemmas.Bool.{eqb-true}
+use Rattle.std.proofs.lemmas.List.{append-nil, take-append-drop, length-append, length-take, get_or-take, drop_more, drop-drop, take_all, drop_all}
+use Rattle.memchr.specs.Find.{IsFirstByte, is_byte}
 use Rattle.sfs.specs.Lines.{IsOneLine}
 use Rattle.sfs.specs.Reading.{Reading}
-use Rattle.sfs.specs.declared.found.Scanned.{Scanned}
 use Rattle.sfs.specs.declared.found.Scanned.TheVariants as scanned
-use Rattle.sfs.specs.LineReader.{IsFront, IsAll, IsTooLong, Scans, Keeps}
+use Rattle.sfs.specs.LineReader.{Scans, Keeps}
 
 -- bytes of which none ends a line are one line
 pub one_line : (xs : List ℕ) → ((i : ℕ) → i < length xs → eqb (get_or xs i 0) 10 ≡ false) → IsOneLine xs
@@ -75,8 +72,7 @@ scanned_line old kept_ new pending at same found k skipped =
     let behind : new.pending ≡ drop (at + 1) old.pending = ap (λ (r : Reading). r.pending) skipped ∙ ap (drop 1) k.1 ∙ drop-drop 1 at old.pending in
     let line : new.line ≡ old.line ++ take at old.pending = ap (λ (r : Reading). r.line) skipped ∙ k.0 in
     let fits : length new.line ≤ 140000 = omega (arith, ap (λ (r : Reading). length r.line) skipped, k.2) in
-    let short : length (take at old.pending) ≤ 140000 = omega (arith, ap (length {A = ℕ}) line, length-append old.line (take at old.pending), fits) in
-    (
+    let short : length (take at old.pending) ≤ 140000 = omega (arith, ap (length {A = ℕ}) line, length-append old.line (take at old.pending), fits) in (
       take at old.pending,
       record { parts = f.parts ∙ ap (λ (r : List ℕ). take at old.pending ++ 10 ∷ r) (sym behind); unended = f.unended; fits = short },
       line,
@@ -97,8 +93,7 @@ pub scanned_more : (old new : Reading) (pending : List ℕ) (count : ℕ) → pe
 scanned_more old new pending count same size none k =
     let whole : length old.pending ≤ count = omega (arith, size, ap (length {A = ℕ}) same) in
     let all : take count old.pending ≡ old.pending = take_all count old.pending whole in
-    let line : new.line ≡ old.line ++ old.pending = k.0 ∙ ap (λ (r : List ℕ). old.line ++ r) all in
-    (
+    let line : new.line ≡ old.line ++ old.pending = k.0 ∙ ap (λ (r : List ℕ). old.line ++ r) all in (
       record {
         parts = refl;
         used = k.1 ∙ drop_all count old.pending whole;

@@ -1,7 +1,6 @@
 -- Reading on turn by turn, until a line ends.
-use Rattle.std.proofs.Common.{◌≡◌, ℕ, ◌+◌, ◌-◌, ◌<◌, ◌≤◌, min, List, [], ◌∷◌, ◌++◌, length, Option, Some, None, Result, Ok, Err, refl, sym, ap, subst, ◌∙◌, append_assoc, arith}
+use Rattle.std.proofs.Common.{◌≡◌, ℕ, ◌+◌, ◌≤◌, min, List, [], ◌++◌, length, Option, Result, Ok, Err, refl, sym, ap, subst, ◌∙◌, append_assoc, arith}
 use Rattle.std.proofs.lemmas.List.{append-nil, length-append}
-use Rattle.sfs_base.specs.Fault.{Rose}
 use Rattle.schedule_text.specs.Stream.{Takes, IsAtEnd}
 use Rattle.schedule_text.proofs.StreamLemmas.{Takes-append, Takes-none}
 use Rattle.sfs.specs.declared.stop.Stop.{Stop}
@@ -10,7 +9,7 @@ use Rattle.sfs.specs.declared.found.Found.{Found}
 use Rattle.sfs.specs.declared.found.Found.TheVariants as found
 use Rattle.sfs.specs.Lines.{IsOneLine}
 use Rattle.sfs.specs.Reading.{Reading}
-use Rattle.sfs.specs.LineReader.{Finds, Turns, GoesOn, TakesAll, IsFront, IsAll, IsTooLong, CountsReads}
+use Rattle.sfs.specs.LineReader.{Finds, GoesOn, TakesAll}
 use Rattle.sfs.proofs.StreamSteps.{takes_all}
 
 -- where reading on stands after some turns
@@ -73,13 +72,12 @@ pub last_turn : (before mid now : Option (List ℕ)) (count middle : ℕ) (old b
     → (all : List ℕ) × Takes before now all × Finds (old.pending ++ all) new (TakesAll before all) r
 last_turn before mid now count middle old between new turns taken r so takes none finds =
     let all = so.taken ++ taken in
-    let whole : all ≡ so.taken = ap (λ (t : List ℕ). so.taken ++ t) none ∙ append-nil so.taken in
-    (
+    let whole : all ≡ so.taken = ap (λ (t : List ℕ). so.taken ++ t) none ∙ append-nil so.taken in (
       all,
       Takes-append so.takes takes,
       weaker_end (old.pending ++ all) new (IsAtEnd mid) (TakesAll before all) r
-      (λ ended. subst (TakesAll before) (sym whole) (takes_all before mid so.taken so.takes ended))
-      (subst (λ (b : List ℕ). Finds b new (IsAtEnd mid) r) (all_bytes old between so.taken taken so.bytes none) finds),
+          (λ ended. subst (TakesAll before) (sym whole) (takes_all before mid so.taken so.takes ended))
+          (subst (λ (b : List ℕ). Finds b new (IsAtEnd mid) r) (all_bytes old between so.taken taken so.bytes none) finds),
     )
 
 -- there are no more turns than a line has bytes

@@ -1,5 +1,5 @@
 -- The turns of a replay: what each of them makes of the transcript.
-use Rattle.std.proofs.Common.{◌≡◌, ℕ, zero, suc, ◌+◌, ◌-◌, ◌^◌, ◌<◌, ◌≤◌, Bool, true, false, cond, ◌&&◌, eqb, ltb, List, [], ◌∷◌, ◌++◌, length, map, Option, Some, None, Result, Ok, Err, refl, sym, ap, subst, ◌∙◌, append_assoc, arith}
+use Rattle.std.proofs.Common.{◌≡◌, ℕ, ◌+◌, ◌-◌, ◌^◌, ◌<◌, ◌≤◌, Bool, true, false, cond, ◌&&◌, ltb, List, [], ◌∷◌, ◌++◌, length, map, Option, Some, None, Ok, Err, refl, sym, ap, subst, ◌∙◌, append_assoc, arith}
 use Rattle.std.specs.Prelude.{slice_get, drop, option_and_then, count_by, ◌==◌}
 use Rattle.std.specs.Option.{option_map_or}
 use Rattle.std.specs.List.{AllByRecursion}
@@ -7,10 +7,8 @@ use Rattle.std.proofs.lemmas.Bool.{le-ltb}
 use Rattle.std.proofs.lemmas.Bool.Decides.{Decides-ltb}
 use Rattle.std.proofs.lemmas.List.{append-nil, length-map, length_push, map-append}
 use Rattle.std.proofs.lemmas.List.Sums.{sum_by-append}
-use Rattle.sfs_base.specs.declared.no_memory.NoMemory.{NoMemory as OutOfMemory}
 use Rattle.fs_tree.specs.declared.geometry.Geometry.{Geometry}
-use Rattle.fs_tree.specs.declared.tree.Tree.{Tree}
-use Rattle.schedule_text.specs.Stream.{Takes, Puts}
+use Rattle.schedule_text.specs.Stream.{Puts}
 use Rattle.schedule_text.specs.declared.event.Event.{Event}
 use Rattle.schedule_text.specs.declared.event.Event.TheVariants as event
 use Rattle.schedule_text.specs.declared.limits.TheConstants.{MAX_LINES}
@@ -25,11 +23,11 @@ use Rattle.sfs.specs.declared.stop.Stop.{Stop}
 use Rattle.sfs.specs.declared.stop.Stop.TheVariants.{ReadFault, WriteFault, NoMemory}
 use Rattle.sfs.specs.declared.world.World.{World}
 use Rattle.sfs.specs.LineReader.{CountsReads}
-use Rattle.sfs.specs.Lines.{lines_of, IsOneLine}
+use Rattle.sfs.specs.Lines.{IsOneLine}
 use Rattle.sfs.specs.Output.{WritesFront}
 use Rattle.sfs.specs.Schedule.{Schedule, event_in, schedule_of, cluster_of}
 use Rattle.sfs.specs.ScheduleReader.{unlines, HasRead, IsNoEvent, NoneFollows, FailsAfter, ReadsEvent}
-use Rattle.sfs.specs.Completes.{completes, reached, reaches}
+use Rattle.sfs.specs.Completes.{reached, reaches}
 use Rattle.sfs.specs.Book.{Book, come_from, next_event, opened, noted, book_after}
 use Rattle.sfs.specs.Legal.{IsAllowed, IsLegal, IsLegalFrom, text_of}
 use Rattle.sfs.specs.World.{Stands, GoesOn, Steps, Tells, is_do}
@@ -113,9 +111,11 @@ none_comes schedule book none = by_cluster (cluster_of schedule)
     at_place g None h = refl
     at_place g (Some None) h = refl
     at_place g (Some (Some e)) h = absurd h
+
     either : (b : Bool) (o : Option Event) → o ≡ None → cond b o None ≡ None
     either true o is = is
     either false o is = refl
+
     by_cluster : (c : Option Geometry) → option_and_then (λ g. cond (ltb book.lines MAX_LINES) (option_and_then (come_from g book) (slice_get schedule book.lines)) None) c ≡ None
     by_cluster None = refl
     by_cluster (Some g) = either (ltb book.lines MAX_LINES) (option_and_then (come_from g book) (slice_get schedule book.lines)) (at_place g (slice_get schedule book.lines) none)

@@ -1,7 +1,6 @@
 -- The reply to the one call that is heard so far.
-use Rattle.std.proofs.Common.{◌≡◌, ℕ, ◌+◌, ◌*◌, ◌<◌, ◌≤◌, List, [], ◌∷◌, ◌++◌, length, refl, sym, ap, subst, ◌∙◌, arith}
+use Rattle.std.proofs.Common.{◌≡◌, ℕ, ◌≤◌, List, [], ◌∷◌, length, ap, ◌∙◌, arith}
 use Rattle.std.proofs.lemmas.List.{length-append}
-use Rattle.sfs_base.specs.Reading.{IsBytes}
 use Rattle.sfs_base.proofs.ReadingLemmas.{IsBytes-append}
 use Rattle.rpc_msg.specs.Messages.{words, accepted}
 use Rattle.rpc_msg.proofs.MessageLemmas.{length-words, words_bytes}

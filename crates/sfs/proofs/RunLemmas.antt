@@ -1,8 +1,6 @@
 -- The words of a run, and its answers.
-use Rattle.std.proofs.Common.{◌≡◌, ℕ, zero, suc, ◌+◌, ◌<◌, ◌≤◌, Bool, true, false, List, [], ◌∷◌, length, get_or, map, Option, Some, Result, Err, refl, sym, ap, subst, ◌∙◌, arith}
+use Rattle.std.proofs.Common.{◌≡◌, ℕ, ◌<◌, ◌≤◌, Bool, List, [], ◌∷◌, length, get_or, map, Err, sym, ap, arith}
 use Rattle.sfs_base.specs.Fault.{Rose}
-use Rattle.sfs.specs.declared.ending.Ending.{Ending}
-use Rattle.sfs.specs.declared.ending.Ending.TheVariants as ending
 use Rattle.sfs.specs.declared.stop.Stop.{Stop}
 use Rattle.sfs.specs.declared.stop.Stop.TheVariants.{ReadFault, WriteFault, NoMemory}
 use Rattle.sfs.specs.Replay.{Counts}

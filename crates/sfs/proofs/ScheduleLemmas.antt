@@ -1,9 +1,9 @@
 -- Lines of a text one after another, and the events that they spell.
-use Rattle.std.proofs.Common.{◌≡◌, ℕ, zero, suc, ◌+◌, ◌-◌, ◌<◌, ◌≤◌, Bool, true, false, cond, eqb, List, [], ◌∷◌, ◌++◌, length, map, Option, Some, None, Result, Ok, Err, refl, sym, ap, subst, ◌∙◌, append_assoc, arith}
+use Rattle.std.proofs.Common.{◌≡◌, ℕ, suc, ◌<◌, ◌≤◌, Bool, true, false, cond, List, [], ◌∷◌, ◌++◌, length, map, Option, Some, None, Ok, Err, refl, sym, ap, subst, ◌∙◌, append_assoc, arith}
 use Rattle.std.specs.Prelude.{slice_get, nat_le}
-use Rattle.std.specs.List.{flat_map, AllByRecursion}
+use Rattle.std.specs.List.{AllByRecursion}
 use Rattle.std.proofs.lemmas.Grind.{flat_map-append}
-use Rattle.std.proofs.lemmas.List.{append-nil, length-append, length-map, map-append}
+use Rattle.std.proofs.lemmas.List.{append-nil, length-map, map-append}
 use Rattle.std.proofs.lemmas.Option.{slice_get_past}
 use Rattle.schedule_text.specs.Stream.{Takes}
 use Rattle.schedule_text.proofs.StreamLemmas.{Takes-append}
@@ -17,7 +17,6 @@ use Rattle.sfs.specs.LineReader.{IsFront, IsAll, IsTooLong, TakesAll, Finds}
 use Rattle.sfs.specs.Reading.{Reading}
 use Rattle.sfs.specs.Schedule.{Schedule, event_in, schedule_of}
 use Rattle.sfs.specs.ScheduleReader.{unlines, HasRead, IsNoEvent, NoneFollows, FailsAfter, ReadsLine, ReadsEvent}
-use Rattle.sfs.proofs.LineLemmas.{IsOneLine-append}
 
 -- ---- the lines of a text
 
@@ -50,10 +49,10 @@ lines_of-front (b ∷ []) rest whole some =
     let tested = ap (λ t. cond t ([] ∷ lines_of rest) (onto b (lines_of rest))) whole.0 in
     let one = put b (lines_of rest) in
     (one.0, one.1, tested ∙ one.2, one.3)
-    where
-      put : (b : ℕ) (lines : List (List ℕ)) → (first : List ℕ) × (others : List (List ℕ)) × (onto b lines ≡ first ∷ others) × (1 ≤ length first)
-      put b [] = (b ∷ [], [], refl, omega arith)
-      put b (line ∷ lines) = (b ∷ line, lines, refl, omega arith)
+  where
+    put : (b : ℕ) (lines : List (List ℕ)) → (first : List ℕ) × (others : List (List ℕ)) × (onto b lines ≡ first ∷ others) × (1 ≤ length first)
+    put b [] = (b ∷ [], [], refl, omega arith)
+    put b (line ∷ lines) = (b ∷ line, lines, refl, omega arith)
 lines_of-front (b ∷ c ∷ front) rest whole some =
     let tested = ap (λ t. cond t ([] ∷ lines_of (c ∷ front ++ rest)) (onto b (lines_of (c ∷ front ++ rest)))) whole.0 in
     let more = first_longer b (length (c ∷ front)) (lines_of (c ∷ front ++ rest)) (lines_of-front (c ∷ front) rest whole.1 (omega arith)) in

@@ -10,7 +10,7 @@ use Rattle.schedule_text.specs.declared.event.Event.TheVariants as event
 use Rattle.schedule_text.specs.declared.limits.TheConstants.{MAX_LINES}
 use Rattle.schedule_text.specs.declared.line.Line.{Line}
 use Rattle.schedule_text.specs.declared.line.Line.TheVariants as line
-use Rattle.sfs.specs.Reply.{Request, heard, responded}
+use Rattle.sfs.specs.Reply.{heard, responded}
 use Rattle.sfs.specs.Schedule.{Schedule, cluster_of}
 
 -- a datagram that came to a node, and how many changes stood before it
@@ -21,12 +21,12 @@ pub record Arrival : Type 0 where
   pub points : ℕ
 
 pub record Book : Type 0 where
-  pub lines : ℕ              -- the lines of the schedule that were taken
+  pub lines : ℕ  -- the lines of the schedule that were taken
   pub arrivals : List Arrival
-  pub points : List ℕ        -- the arrival of each change
-  pub trees : List Tree      -- the opening tree, and the tree after each change
-  pub ended : List ℕ         -- the arrivals that have their reply or were dropped
-  pub closed : Bool          -- the last line stands
+  pub points : List ℕ  -- the arrival of each change
+  pub trees : List Tree  -- the opening tree, and the tree after each change
+  pub ended : List ℕ  -- the arrivals that have their reply or were dropped
+  pub closed : Bool  -- the last line stands
 
 -- the element with this number, counted from 1
 abbrev pub numbered : {X : Type 0} → List X → ℕ → Option X

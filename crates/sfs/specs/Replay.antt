@@ -1,5 +1,5 @@
 -- Replaying a schedule: what was written at each moment, and how it ends.
-use Rattle.std.specs.Prelude.{◌≡◌, ℕ, ◌+◌, ◌-◌, ◌<◌, ◌==◌, Bool, true, false, List, [], ◌∷◌, ◌++◌, length, map, count_by, Option, Some, None, Result, Ok, Err}
+use Rattle.std.specs.Prelude.{◌≡◌, ℕ, ◌+◌, ◌-◌, ◌==◌, Bool, true, false, List, [], ◌∷◌, ◌++◌, length, map, count_by, Option, Some, None, Result, Ok, Err}
 use Rattle.sfs_base.specs.Fault.{Rose}
 use Rattle.schedule_text.specs.Stream.{Takes, Puts}
 use Rattle.schedule_text.specs.declared.line.Line.{Line}
@@ -16,7 +16,7 @@ use Rattle.sfs.specs.Output.{WritesFront}
 use Rattle.sfs.specs.Schedule.{Schedule, event_in, schedule_of}
 use Rattle.sfs.specs.ScheduleReader.{HasRead, FailsAfter}
 use Rattle.sfs.specs.Completes.{completes, reaches}
-use Rattle.sfs.specs.Book.{Book, opened, book_after, next_event}
+use Rattle.sfs.specs.Book.{Book, opened, book_after}
 use Rattle.sfs.specs.Legal.{IsLegal, text_of}
 use Rattle.sfs.specs.World.{Stands, is_do}
 

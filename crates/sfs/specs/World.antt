@@ -1,5 +1,5 @@
 -- What the plain world is for a transcript, and what one event makes of it.
-use Rattle.std.specs.Prelude.{◌≡◌, ℕ, ◌+◌, ◌≤◌, Bool, true, false, List, length, All, count_by, Option, Some, None, Result, Ok, Err}
+use Rattle.std.specs.Prelude.{◌≡◌, ◌+◌, ◌≤◌, Bool, true, false, List, length, All, count_by, Option, Some, None, Result, Ok, Err}
 use Rattle.std.specs.List.{AllByRecursion}
 use Rattle.sfs_base.specs.declared.no_memory.NoMemory.{NoMemory}
 use Rattle.fs_tree.specs.Good.{IsGood}

@@ -37,7 +37,12 @@ pub fn replay_schedule<S: Source, K: Sink>(
             Turn::On => {}
             Turn::Ended => return close(alloc, output, Line::End, Ending::Ended),
             Turn::Refused => {
-                return close(alloc, output, Line::Refused { line: number }, Ending::Refused);
+                return close(
+                    alloc,
+                    output,
+                    Line::Refused { line: number },
+                    Ending::Refused,
+                );
             }
         }
     }
@@ -46,12 +51,7 @@ pub fn replay_schedule<S: Source, K: Sink>(
 }
 
 // Writes the last line of a transcript.
-fn close<K: Sink>(
-    alloc: Global,
-    output: &mut K,
-    line: Line,
-    ending: Ending,
-) -> Result<Ending, Stop>
+fn close<K: Sink>(alloc: Global, output: &mut K, line: Line, ending: Ending) -> Result<Ending, Stop>
     requires { IsWritableLine line }
     ensures counts { CountsWrites (K.faults output.old) (K.faults output.new) result }
     ensures front { (rest : List ℕ) × WritesFront (K.held output.old) (K.held output.new) (text_of (line ∷ [])) rest × OnOk result (rest ≡ []) }

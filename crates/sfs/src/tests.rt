@@ -119,7 +119,11 @@ fn a_failed_read_ends_the_run_behind_the_whole_lines(rt: HostRuntime) -> Result<
         let status = run(rt.alloc(), words.as_slice(), &mut input, &mut output);
         assert_eq!(rt; status, Status::ReadFault);
         assert_eq!(rt; output.bytes().len(), written, "with read {call} failed");
-        assert_eq!(rt; TRANSCRIPT.starts_with(output.bytes()), true, "with read {call} failed");
+        assert_eq!(rt;
+            TRANSCRIPT.starts_with(output.bytes()),
+            true,
+            "with read {call} failed"
+        );
         assert_eq!(rt; (input.faults(), output.faults()), (1, 0));
     }
     Ok(())
@@ -134,7 +138,11 @@ fn a_failed_write_ends_the_run(rt: HostRuntime) -> Result<(), Fail> {
         let mut output = sink(rt.alloc(), &[call])?.in_pieces(100);
         let status = run(rt.alloc(), words.as_slice(), &mut input, &mut output);
         assert_eq!(rt; status, Status::WriteFault);
-        assert_eq!(rt; TRANSCRIPT.starts_with(output.bytes()), true, "with write {call} failed");
+        assert_eq!(rt;
+            TRANSCRIPT.starts_with(output.bytes()),
+            true,
+            "with write {call} failed"
+        );
         assert_eq!(rt; (input.faults(), output.faults()), (0, 1));
     }
     Ok(())
@@ -199,8 +207,14 @@ fn the_world_of_a_cluster_opens_once(rt: HostRuntime) -> Result<(), Fail> {
     let mut opened = World::open(rt.alloc(), &cluster)?;
     assert_eq!(rt; opened.is_some(), true);
     if let Some(world) = &mut opened {
-        assert_eq!(rt; matches!(world.step(rt.alloc(), &cluster)?, Step::Refused), true);
-        assert_eq!(rt; matches!(world.step(rt.alloc(), &Event::End)?, Step::Ended), true);
+        assert_eq!(rt;
+            matches!(world.step(rt.alloc(), &cluster)?, Step::Refused),
+            true
+        );
+        assert_eq!(rt;
+            matches!(world.step(rt.alloc(), &Event::End)?, Step::Ended),
+            true
+        );
     }
     Ok(())
 }
@@ -213,13 +227,23 @@ fn a_replay_goes_on_turn_by_turn(rt: HostRuntime) -> Result<(), Fail> {
     assert_eq!(rt; opened.is_some(), true);
     if let Some(replay) = &mut opened {
         for after in AFTER_ARRIVALS {
-            assert_eq!(rt; replay.turn(rt.alloc(), &mut input, &mut output), Ok(Turn::On));
+            assert_eq!(rt;
+                replay.turn(rt.alloc(), &mut input, &mut output),
+                Ok(Turn::On)
+            );
             assert_eq!(rt; output.bytes(), &TRANSCRIPT[..after]);
         }
-        assert_eq!(rt; replay.turn(rt.alloc(), &mut input, &mut output), Ok(Turn::Ended));
+        assert_eq!(rt;
+            replay.turn(rt.alloc(), &mut input, &mut output),
+            Ok(Turn::Ended)
+        );
     }
     assert_eq!(rt;
-        replay_schedule(rt.alloc(), &mut source(rt.alloc(), b"end", &[1])?, &mut output),
+        replay_schedule(
+            rt.alloc(),
+            &mut source(rt.alloc(), b"end", &[1])?,
+            &mut output
+        ),
         Err(Stop::ReadFault)
     );
     Ok(())
@@ -228,7 +252,11 @@ fn a_replay_goes_on_turn_by_turn(rt: HostRuntime) -> Result<(), Fail> {
 #[test]
 fn lines_and_bytes_are_written_whole(rt: HostRuntime) -> Result<(), Fail> {
     let mut output = sink(rt.alloc(), &[])?.in_pieces(3);
-    write_lines(rt.alloc(), &mut output, &[Line::Refused { line: 12 }, Line::End])?;
+    write_lines(
+        rt.alloc(),
+        &mut output,
+        &[Line::Refused { line: 12 }, Line::End],
+    )?;
     assert_eq!(rt; output.bytes(), b"refused 12\nend\n".as_slice());
     assert_eq!(rt; write_whole(&mut output, b"more"), Ok(()));
     assert_eq!(rt; output.bytes(), b"refused 12\nend\nmore".as_slice());
@@ -249,5 +277,8 @@ fn a_fault_is_replied_as_its_number(rt: HostRuntime) -> Result<(), Fail> {
 #[test]
 fn the_standard_streams_take_an_empty_piece(rt: HostRuntime) {
     assert_eq!(rt; StandardInput::new(rt.stdin()).read(&mut []), Ok(0));
-    assert_eq!(rt; StandardOutput::new(rt.stdout()).write(&[]), Ok::<usize, Failed>(0));
+    assert_eq!(rt;
+        StandardOutput::new(rt.stdout()).write(&[]),
+        Ok::<usize, Failed>(0)
+    );
 }

@@ -118,12 +118,7 @@ impl World {
 }
 
 // The reply to GETATTR of the root, which leaves the tree as it is.
-fn answer_root(
-    alloc: Global,
-    tree: &mut Tree,
-    xid: u32,
-    moment: Stamp,
-) -> Result<Bytes, NoMemory>
+fn answer_root(alloc: Global, tree: &mut Tree, xid: u32, moment: Stamp) -> Result<Bytes, NoMemory>
     ensures exact { (arrival : ℕ) → IsGood tree.old → IfOk result (λ bytes. bytes ≡ reply tree.old (root_request xid) arrival moment) }
     ensures left { (arrival : ℕ) → IsGood tree.old → OnOk result (tree.new ≡ (responded tree.old (root_request xid) arrival moment).tree) }
     ensures good { IsGood tree.old → IsGood tree.new }

@@ -1,4 +1,4 @@
-use Rattle.std.proofs.Common.{◌≡◌, ◌+◌, ◌-◌, ◌<◌, ◌≤◌, ℕ, List, [], ◌∷◌, ◌++◌, length, Option, None, Result, Ok, Err, Bool, true, false, refl, sym, ap, subst, ◌∙◌, arith}
+use Rattle.std.proofs.Common.{◌≡◌, ◌+◌, ◌≤◌, ℕ, [], ◌∷◌, ◌++◌, length, Option, Ok, true, false, refl, subst, ◌∙◌, arith}
 use Rattle.std.proofs.lemmas.List.{length_push}
 use Rattle.std.proofs.lemmas.Result.{err_from_is_err_and}
 use Rattle.schedule_text.specs.declared.limits.TheConstants.{MAX_LINES}
@@ -8,7 +8,7 @@ use Rattle.sfs.specs.declared.ending.Ending.TheVariants as ending
 use Rattle.sfs.specs.declared.replay.Replay.{Replay}
 use Rattle.sfs.specs.declared.turn.Turn.{Turn}
 use Rattle.sfs.specs.Legal.{text_of}
-use Rattle.sfs.specs.Replay.{Finishes, OfSchedule, Opens, Stood, Turns}
+use Rattle.sfs.specs.Replay.{Finishes, OfSchedule, Opens, Turns}
 use Rattle.sfs.proofs.ReplayLemmas.{refuses_past}
 use Rattle.sfs.proofs.OpenLemmas.{open_stopped, closed}
 use Rattle.sfs.proofs.replay.replay_schedule.Goals as goal

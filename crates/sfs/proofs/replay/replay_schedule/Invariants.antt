@@ -1,4 +1,4 @@
-use Rattle.std.proofs.Common.{◌≡◌, ◌-◌, ℕ, List}
+use Rattle.std.proofs.Common.{◌≡◌, ◌-◌}
 use Rattle.sfs.specs.Replay.{Replaying}
 use Rattle.sfs.proofs.replay.replay_schedule.Given as goal
 

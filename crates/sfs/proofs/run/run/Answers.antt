@@ -1,4 +1,4 @@
-use Rattle.std.proofs.Common.{◌≡◌, sym, subst}
+use Rattle.std.proofs.Common.{sym, subst}
 use Rattle.sfs.specs.declared.ending.Ending.{Ending}
 use Rattle.sfs.specs.declared.status.Status.{Status}
 use Rattle.sfs.specs.Completes.{completes}

@@ -1,6 +1,5 @@
 use Rattle.std.proofs.Common.{◌≡◌, ◌+◌, ◌∷◌, [], ◌++◌, take, List, ℕ, sym, ap, ◌∙◌, append_assoc, arith}
 use Rattle.std.proofs.lemmas.List.{append-nil}
-use Rattle.std.proofs.lemmas.Grind.{flat_map-append}
 use Rattle.schedule_text.specs.Grammar.{spelling_of_line}
 use Rattle.sfs.specs.Legal.{text_of}
 use Rattle.sfs.proofs.BookLemmas.{text-more}

@@ -1,9 +1,9 @@
-use Rattle.std.proofs.Common.{ℕ, ◌≡◌, ◌∙◌, ap, Option, None}
-use Rattle.std.specs.Prelude.{◌%◌, IfOk}
+use Rattle.std.proofs.Common.{◌∙◌, ap, None}
+use Rattle.std.specs.Prelude.{◌%◌}
 use Rattle.std.proofs.lemmas.Result.{IfOk-weaker}
 use Rattle.fs_tree.specs.Respond.{Responded}
 use Rattle.rpc_msg.specs.Messages.{accepted}
-use Rattle.sfs.specs.Reply.{answer_spelling, reply, root_request}
+use Rattle.sfs.specs.Reply.{answer_spelling}
 use Rattle.sfs.proofs.ReplyLemmas.{same_response, nothing_made}
 use Rattle.sfs.proofs.world.answer_root.Goals as goal
 

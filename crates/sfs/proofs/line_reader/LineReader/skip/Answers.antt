@@ -1,4 +1,4 @@
-use Rattle.std.proofs.Common.{ℕ, List, ◌<◌, ◌≤◌, ◌-◌, length, drop, sym, ap, subst, ◌∙◌, arith}
+use Rattle.std.proofs.Common.{ℕ, List, ◌<◌, ◌≤◌, ◌-◌, length, drop, sym, ap, ◌∙◌, arith}
 use Rattle.sfs.specs.Reading.{Reading}
 use Rattle.sfs.proofs.WindowLemmas.{window_rest, length_window}
 use Rattle.sfs.proofs.line_reader.LineReader.skip.Goals as goal

@@ -1,7 +1,6 @@
-use Rattle.std.proofs.Common.{◌≡◌, List, [], ◌∷◌, ◌++◌, ℕ, Option, Some, None, Ok, Err, sym, ap, subst, ◌∙◌}
+use Rattle.std.proofs.Common.{[], Option, Some, Ok, subst}
 use Rattle.std.proofs.lemmas.Result.{err_from_is_err_and}
 use Rattle.schedule_text.specs.declared.event.Event.{Event}
-use Rattle.sfs.specs.declared.world.World.{World}
 use Rattle.sfs.specs.World.{Opens}
 use Rattle.sfs.specs.ScheduleReader.{ReadsEvent}
 use Rattle.sfs.proofs.OpenLemmas.{unread, first_stopped, none_first, no_cluster, stands_first}

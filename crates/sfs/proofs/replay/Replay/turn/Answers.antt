@@ -1,4 +1,4 @@
-use Rattle.std.proofs.Common.{◌≡◌, ◌<◌, ◌+◌, ℕ, List, [], ◌∷◌, ◌++◌, length, Option, Some, None, Result, Ok, Err, refl, sym, ap, subst, ◌∙◌, arith}
+use Rattle.std.proofs.Common.{◌≡◌, ℕ, List, [], Option, Ok, refl, subst}
 use Rattle.std.proofs.lemmas.Result.{err_from_is_err_and}
 use Rattle.schedule_text.specs.declared.event.Event.{Event}
 use Rattle.sfs.specs.declared.step.Step.{Step}
@@ -10,7 +10,6 @@ use Rattle.sfs.specs.Legal.{text_of}
 use Rattle.sfs.specs.ScheduleReader.{ReadsEvent}
 use Rattle.sfs.proofs.ReplayLemmas.{StepsAll, read_counts, read_stopped, none_follows, breaks_off, few_came, steps_at, stands_on, legal_on, write_stopped, ends_here, refuses_here}
 use Rattle.sfs.specs.World.{Tells}
-use Rattle.sfs.specs.Replay.{Counts, Stood, Turns}
 use Rattle.sfs.proofs.replay.Replay.turn.Goals as goal
 
 pub returns-in_err-event-clause-counts : goal.returns-in_err-event-clause-counts
@@ -24,9 +23,11 @@ returns-in_err-event-clause-turns g c left held done lines stood within =
     rw (p.1, p.2) (read_stopped stood _ c.next_event.new.self c.in_err-event.field-0.0 (c.in_err-event.ensures.reads left done stood.read))
 
 pub returns-in_default-clause-turns : goal.returns-in_default-clause-turns
-returns-in_default-clause-turns g c left held done lines stood within =
-    (stood.put, none_follows stood
-    (subst (λ (o : Option Event). ReadsEvent left (g.S.Source.left c.next_event.new.source) done c.next_event.new.self (Ok o)) c.in_default.is ((c.in_ok-event.ensures {u = tt}).reads left done stood.read)))
+returns-in_default-clause-turns g c left held done lines stood within = (
+  stood.put,
+  none_follows stood
+      (subst (λ (o : Option Event). ReadsEvent left (g.S.Source.left c.next_event.new.source) done c.next_event.new.self (Ok o)) c.in_default.is ((c.in_ok-event.ensures {u = tt}).reads left done stood.read)),
+)
 
 pub returns-in_err-lines-clause-turns : goal.returns-in_err-lines-clause-turns
 returns-in_err-lines-clause-turns g c left held done lines stood within =

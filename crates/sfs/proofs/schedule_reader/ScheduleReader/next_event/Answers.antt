@@ -1,4 +1,4 @@
-use Rattle.std.proofs.Common.{◌≡◌, true, false, Ok, Bool, subst}
+use Rattle.std.proofs.Common.{Ok, Bool, subst}
 use Rattle.std.proofs.lemmas.Result.{err_from_is_err_and}
 use Rattle.sfs.specs.ScheduleReader.{ReadsLine}
 use Rattle.sfs.proofs.ScheduleLemmas.{event_stopped, event_read}

@@ -1,9 +1,7 @@
 use Rattle.std.proofs.Common.{◌++◌, Ok, subst}
 use Rattle.std.proofs.lemmas.Result.{err_from_is_err_and}
 use Rattle.sfs.specs.declared.found.Found.{Found}
-use Rattle.sfs.specs.declared.stop.Stop.{Stop}
 use Rattle.sfs.specs.LineReader.{Finds, TakesAll}
-use Rattle.sfs.specs.ScheduleReader.{ReadsLine}
 use Rattle.sfs.proofs.ScheduleLemmas.{read_more, read_last, read_end, read_too_long, line_stopped}
 use Rattle.sfs.proofs.schedule_reader.ScheduleReader.next_line.Goals as goal
 
