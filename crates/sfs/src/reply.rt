@@ -1,12 +1,12 @@
-ghost use Rattle.std.specs.Prelude.{◌≡◌, ◌++◌, IfOk, OnOk};
-ghost use Rattle.rpc_msg.specs.Messages.{words, accepted};
+ghost use Rattle.std.specs.Prelude.{◌≡◌, IfOk};
+ghost use Rattle.rpc_msg.specs.Messages.{accepted};
 ghost use Rattle.schedule_text.specs.Words.{IsDatagram};
-ghost use Rattle.sfs.specs.Reply.{answer_spelling, answer_words};
+ghost use Rattle.sfs.specs.Reply.{answer_spelling};
 
 use fs_tree::Answer;
 use rpc_msg::write_reply;
 use sfs_base::{Bytes, NoMemory};
-use sfs_xdr::Writer;
+use sfs_xdr::{Writer, write_words};
 use std::alloc::Global;
 
 /// The reply to the call with this xid: accepted, with the answer as RFC 1094 spells it.
@@ -52,14 +52,4 @@ fn spelled(alloc: Global, answer: &Answer) -> Result<Vec<u8>, NoMemory>
         )?,
     }
     Ok(writer.finish())
-}
-
-// Numbers, one behind the other.
-fn write_words(writer: &mut Writer, numbers: &[u32]) -> Result<(), NoMemory>
-    ensures { OnOk result (writer.new ≡ writer.old ++ words numbers.now) }
-{
-    for number in numbers {
-        writer.u32(*number)?;
-    }
-    Ok(())
 }

@@ -3,6 +3,7 @@ use crate::line_reader::LineReader;
 use crate::output::write_whole;
 use crate::replay::{Replay, replay_schedule};
 use crate::reply::reply_to;
+use crate::request::Request;
 use crate::run::run;
 use crate::schedule_reader::ScheduleReader;
 use crate::standard_input::StandardInput;
@@ -41,6 +42,33 @@ end
 /// The bytes of the transcript up to the end of the replies to the first and the second arrival.
 const AFTER_ARRIVALS: [usize; 2] = [220, 440];
 
+/// A schedule with a call of LOOKUP, which is not built.
+const NOT_BUILT: &[u8] = b"cluster 1 1 1 1
+arrive 0 0 0 000000090000000000000002000186a3000000020000000400000000000000000000000000000000
+end
+";
+
+/// Messages that the file system is not needed for, and one that is silence.
+const MESSAGES: &[u8] = b"cluster 2 1 1 1
+arrive 0 0 0 00
+arrive 1 0 0 000000090000000000000002000186a3000000020000000000000000000000000000000000000000
+arrive 0 0 0 000000090000000000000003000186a30000000200000000
+arrive 1 0 0 000000090000000000000002000186a300000002000000000000000000000191
+end
+";
+
+/// The transcript: silence, the empty result of NULL, another version of RPC, a credential that is too long.
+const REPLIES: &[u8] = b"do arrive 1 0
+dropped 1 silent
+do arrive 2 1
+reply 2 at 0 000000090000000100000000000000000000000000000000
+do arrive 3 0
+reply 3 at 0 000000090000000100000001000000000000000200000002
+do arrive 4 1
+reply 4 at 0 0000000900000001000000010000000100000001
+end
+";
+
 fn source(alloc: Global, text: &[u8], failing: &[u64]) -> Result<PlanSource, Fail> {
     let bytes = Bytes::from_slice(alloc, text)?;
     Ok(PlanSource::new(bytes, Calls::from_slice(alloc, failing)?))
@@ -73,6 +101,24 @@ fn a_schedule_is_replayed(rt: HostRuntime) -> Result<(), Fail> {
 }
 
 #[test]
+fn messages_are_answered_without_the_file_system(rt: HostRuntime) -> Result<(), Fail> {
+    let words = words(rt.alloc(), &["replay"])?;
+    let mut input = source(rt.alloc(), MESSAGES, &[])?;
+    let mut output = sink(rt.alloc(), &[])?;
+    let status = run(rt.alloc(), words.as_slice(), &mut input, &mut output);
+    assert_eq!(rt; status, Status::Done);
+    assert_eq!(rt; output.bytes(), REPLIES);
+    Ok(())
+}
+
+#[test]
+fn requests_are_told_apart(rt: HostRuntime) -> Result<(), Fail> {
+    let silent = Request::read(rt.alloc(), b"no call")?;
+    assert!(rt; matches!(silent, Some(Request::Silent)));
+    Ok(())
+}
+
+#[test]
 fn a_schedule_is_refused_by_the_number_of_its_line(rt: HostRuntime) -> Result<(), Fail> {
     let words = words(rt.alloc(), &["replay"])?;
     let refused = [
@@ -80,7 +126,7 @@ fn a_schedule_is_refused_by_the_number_of_its_line(rt: HostRuntime) -> Result<()
         (b"cluster 0 1 1 1\nend\n", b"refused 1\n"),
         (b"cluster 1 1 1 1\n", b"refused 2\n"),
         (b"cluster 1 1 1 1\ncluster 1 1 1 1\nend\n", b"refused 2\n"),
-        (b"cluster 1 1 1 1\narrive 0 0 0 00\nend\n", b"refused 2\n"),
+        (NOT_BUILT, b"refused 2\n"),
     ];
     for (text, transcript) in refused {
         let mut input = source(rt.alloc(), text, &[])?;
