@@ -106,13 +106,13 @@ boolean_exact = record {
 -- ---- opaque bytes
 
 -- what n bytes with those that fill them up take from the front
-record TakesOpaque (n : ℕ) (bytes body rest : List ℕ) : Type 0 where
-  sized : length body ≡ n
-  padding : List ℕ
-  filled : length padding ≡ padding_of n
-  parts : bytes ≡ body ++ padding ++ rest
+pub record TakesOpaque (n : ℕ) (bytes body rest : List ℕ) : Type 0 where
+  pub sized : length body ≡ n
+  pub padding : List ℕ
+  pub filled : length padding ≡ padding_of n
+  pub parts : bytes ≡ body ++ padding ++ rest
 
-opaque_found : (n : ℕ) (bytes body rest : List ℕ) → opaque_of n bytes ≡ Ok (body, rest) → TakesOpaque n bytes body rest
+pub opaque_found : (n : ℕ) (bytes body rest : List ℕ) → opaque_of n bytes ≡ Ok (body, rest) → TakesOpaque n bytes body rest
 unfolding opaque_of
 opaque_found n bytes body rest e =
     let g = guard_ok (ltb (length bytes) (n + padding_of n)) Short (Ok (take n bytes, drop (n + padding_of n) bytes)) (body, rest) e in

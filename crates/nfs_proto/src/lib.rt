@@ -1,0 +1,28 @@
+//! NFS version 2 messages (RFC 1094): the arguments and results of its eighteen procedures, both ways.
+//!
+//! A [`Call`] has a variant for each procedure, and an [`Answer`] one for each form of a result.
+//! [`read_args`] and [`write_args`] read and spell arguments, [`read_answer`] and [`write_answer`]
+//! results. A reader takes the value that the bytes begin with; what follows it, and the bytes that fill
+//! an item up, may be any. What is spelled how is in `specs/`, procedure by procedure.
+#![tactic(auto)]
+
+mod arg_fault;
+mod args_reader;
+mod args_writer;
+mod call;
+mod fattr;
+mod handle;
+mod limits;
+mod sattr;
+mod stamp;
+
+pub use arg_fault::ArgFault;
+pub use args_reader::read_args;
+pub use args_writer::write_args;
+pub use call::Call;
+pub use fattr::Fattr;
+pub use handle::Handle;
+pub use limits::{LAST_PROCEDURE, MAX_DATA_BYTES, MAX_NAME_BYTES, MAX_PATH_BYTES};
+pub use sattr::Sattr;
+pub use sfs_base::{Bytes, NoMemory};
+pub use stamp::Stamp;
