@@ -1,3 +1,5 @@
 pub mod Types
 pub mod TypeLemmas
 pub mod Arguments
+pub mod Answers
+pub mod AnswerLemmas

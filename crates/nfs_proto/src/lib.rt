@@ -6,20 +6,30 @@
 //! an item up, may be any. What is spelled how is in `specs/`, procedure by procedure.
 #![tactic(auto)]
 
+mod answer;
+mod answer_reader;
+mod answer_writer;
 mod arg_fault;
 mod args_reader;
 mod args_writer;
 mod call;
+mod dir_entry;
 mod fattr;
+mod form;
 mod handle;
 mod limits;
 mod sattr;
 mod stamp;
+mod status;
 
+pub use answer::Answer;
+pub use answer_reader::read_answer;
+pub use answer_writer::write_answer;
 pub use arg_fault::ArgFault;
 pub use args_reader::read_args;
 pub use args_writer::write_args;
 pub use call::Call;
+pub use dir_entry::{DirEntries, DirEntry};
 pub use fattr::Fattr;
 pub use handle::Handle;
 pub use limits::{LAST_PROCEDURE, MAX_DATA_BYTES, MAX_NAME_BYTES, MAX_PATH_BYTES};
