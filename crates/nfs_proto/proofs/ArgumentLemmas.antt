@@ -5,10 +5,11 @@ use Rattle.std.proofs.lemmas.Option.{slice_get_past, slice_get-get_or}
 use Rattle.sfs_xdr.specs.declared.item_fault.ItemFault.{ItemFault}
 use Rattle.sfs_xdr.specs.declared.item_fault.ItemFault.TheVariants as item
 use Rattle.sfs_xdr.specs.Codec.{Reading}
-use Rattle.nfs_proto.specs.declared.arg_fault.ArgFault.{ArgFault}
-use Rattle.nfs_proto.specs.declared.arg_fault.ArgFault.TheVariants as fault
+use Rattle.sfs_xdr.specs.Faults.{fault_of}
+use Rattle.sfs_xdr.specs.declared.arg_fault.ArgFault.{ArgFault}
+use Rattle.sfs_xdr.specs.declared.arg_fault.ArgFault.TheVariants as fault
 use Rattle.nfs_proto.specs.declared.call.Call.{Call}
-use Rattle.nfs_proto.specs.Arguments.{readers, read_by, arguments_of, value_of, told, args_of, null_of, fault_of}
+use Rattle.nfs_proto.specs.Arguments.{readers, read_by, arguments_of, value_of, told, args_of, null_of}
 
 -- a call that was read
 told_found : (o : Option (Reading Call)) (bytes : List ℕ) (call : Call) (rest : List ℕ) → read_by o bytes ≡ Ok (call, rest) → told o bytes ≡ Ok call

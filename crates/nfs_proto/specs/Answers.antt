@@ -6,8 +6,8 @@ use Rattle.sfs_xdr.specs.Items.{word, words, boolean, opaque, opaque_var}
 use Rattle.sfs_xdr.specs.Codec.{Reading, both_of, made_of, number_item, boolean_item, ◌⟫◌, IsNumber, IsBoolean}
 use Rattle.nfs_proto.specs.declared.answer.Answer.{Answer}
 use Rattle.nfs_proto.specs.declared.answer.Answer.TheVariants as answer
-use Rattle.nfs_proto.specs.declared.arg_fault.ArgFault.{ArgFault}
-use Rattle.nfs_proto.specs.declared.arg_fault.ArgFault.TheVariants as fault
+use Rattle.sfs_xdr.specs.declared.arg_fault.ArgFault.{ArgFault}
+use Rattle.sfs_xdr.specs.declared.arg_fault.ArgFault.TheVariants as fault
 use Rattle.nfs_proto.specs.declared.dir_entry.DirEntry.{DirEntry}
 use Rattle.nfs_proto.specs.declared.form.Form.{Form}
 use Rattle.nfs_proto.specs.declared.form.Form.TheVariants as form

@@ -1,11 +1,9 @@
 -- The arguments of the procedures (RFC 1094, section 2.2): how they are spelled, and what reading them gives.
 use Rattle.std.specs.Prelude.{◌≡◌, ◌≤◌, ℕ, List, [], ◌∷◌, ◌++◌, length, Option, Some, None, slice_get, Result, Ok, Err}
-use Rattle.sfs_xdr.specs.declared.item_fault.ItemFault.{ItemFault}
-use Rattle.sfs_xdr.specs.declared.item_fault.ItemFault.TheVariants as item
 use Rattle.sfs_xdr.specs.Items.{words, opaque, opaque_var}
 use Rattle.sfs_xdr.specs.Codec.{Reading, both_of, made_of, number_item, ◌⟫◌, IsNumber}
-use Rattle.nfs_proto.specs.declared.arg_fault.ArgFault.{ArgFault}
-use Rattle.nfs_proto.specs.declared.arg_fault.ArgFault.TheVariants as fault
+use Rattle.sfs_xdr.specs.declared.arg_fault.ArgFault.{ArgFault}
+use Rattle.sfs_xdr.specs.declared.arg_fault.ArgFault.TheVariants as fault
 use Rattle.nfs_proto.specs.declared.call.Call.{Call}
 use Rattle.nfs_proto.specs.declared.call.Call.TheVariants.{Null, GetAttr, SetAttr, Root, Lookup, ReadLink, Read, WriteCache, Write, Create, Remove, Rename, Link, SymLink, MakeDir, RemoveDir, ReadDir, StatFs}
 use Rattle.nfs_proto.specs.Types.{IsHandle, handle_item, IsName, name_item, IsPath, path_item, IsData, data_item, IsSattr, sattr_item, sattr_words}
@@ -132,13 +130,6 @@ value_of (Err e) = Err fault.Garbage
 -- the arguments of a procedure
 unfoldable pub arguments_of : ℕ → Reading Call
 arguments_of procedure = read_by (slice_get readers procedure)
-
--- ---- faults
-
--- what a fault in the arguments is told as
-abbrev pub fault_of : ItemFault → ArgFault
-fault_of item.Malformed = fault.Garbage
-fault_of item.NoMemory = fault.NoMemory
 
 -- what reading the arguments of a procedure gives: they are taken from the front, and what follows them is left
 abbrev pub told : Option (Reading Call) → List ℕ → Result Call ArgFault

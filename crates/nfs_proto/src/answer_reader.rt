@@ -1,10 +1,9 @@
 ghost use Rattle.std.specs.Prelude.{◌≡◌, Ok, Err, IfOk};
 ghost use Rattle.sfs_xdr.specs.declared.item_fault.ItemFault.TheVariants.{Malformed as malformed};
 ghost use Rattle.nfs_proto.specs.Answers.{answer_of, result_of, status_of, body_of, found_of, part_of, names_of, space_of, entries_item};
-ghost use Rattle.nfs_proto.specs.declared.arg_fault.ArgFault.TheVariants as fault;
+ghost use Rattle.sfs_xdr.specs.declared.arg_fault.ArgFault.TheVariants as fault;
 
 use crate::answer::Answer;
-use crate::arg_fault::ArgFault;
 use crate::dir_entry::{DirEntries, DirEntry};
 use crate::fattr::Fattr;
 use crate::form::Form;
@@ -12,7 +11,7 @@ use crate::handle::Handle;
 use crate::limits::{MAX_DATA_BYTES, MAX_PATH_BYTES};
 use crate::status::{OK, is_fault};
 use sfs_base::Seq;
-use sfs_xdr::{Codec, ItemFault, Reader, Text};
+use sfs_xdr::{ArgFault, Codec, ItemFault, Reader, Text};
 use std::alloc::Global;
 
 type Path = Text<MAX_PATH_BYTES>;

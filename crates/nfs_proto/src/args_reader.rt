@@ -1,14 +1,13 @@
 ghost use Rattle.std.specs.Prelude.{◌≡◌, Ok, Err, IfOk};
 ghost use Rattle.sfs_xdr.specs.declared.item_fault.ItemFault.TheVariants.{Malformed as malformed};
 ghost use Rattle.nfs_proto.specs.Arguments.{get_attr_of, set_attr_of, lookup_of, read_link_of, read_of, write_of, create_of, remove_of, rename_of, link_of, sym_link_of, make_dir_of, remove_dir_of, read_dir_of, stat_fs_of, arguments_of, args_of};
-ghost use Rattle.nfs_proto.specs.declared.arg_fault.ArgFault.TheVariants as fault;
+ghost use Rattle.sfs_xdr.specs.declared.arg_fault.ArgFault.TheVariants as fault;
 
-use crate::arg_fault::ArgFault;
 use crate::call::Call;
 use crate::handle::Handle;
 use crate::limits::{LAST_PROCEDURE, MAX_DATA_BYTES, MAX_NAME_BYTES, MAX_PATH_BYTES};
 use crate::sattr::Sattr;
-use sfs_xdr::{Codec, ItemFault, Reader, Text};
+use sfs_xdr::{ArgFault, Codec, ItemFault, Reader, Text};
 use std::alloc::Global;
 
 type Name = Text<MAX_NAME_BYTES>;

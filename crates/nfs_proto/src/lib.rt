@@ -9,7 +9,6 @@
 mod answer;
 mod answer_reader;
 mod answer_writer;
-mod arg_fault;
 mod args_reader;
 mod args_writer;
 mod call;
@@ -25,7 +24,7 @@ mod status;
 pub use answer::Answer;
 pub use answer_reader::read_answer;
 pub use answer_writer::write_answer;
-pub use arg_fault::ArgFault;
+pub use sfs_xdr::ArgFault;
 pub use args_reader::read_args;
 pub use args_writer::write_args;
 pub use call::Call;

@@ -17,7 +17,7 @@ unfolding plainly
 plainly_ok (Ok y) x e = cc
 plainly_ok (Err d) x e = absurd cc
 
-plainly_is : {X E : Type 0} (r : Result X E) (x : X) → r ≡ Ok x → ◌≡◌ {A = Result X (Unit {0})} (plainly r) (Ok x)
+pub plainly_is : {X E : Type 0} (r : Result X E) (x : X) → r ≡ Ok x → ◌≡◌ {A = Result X (Unit {0})} (plainly r) (Ok x)
 unfolding plainly
 plainly_is (Ok y) x e = cc
 plainly_is (Err d) x e = absurd cc

@@ -7,6 +7,7 @@
 //! the contract of the laws.
 #![tactic(auto)]
 
+mod arg_fault;
 mod codec;
 mod counted;
 mod item_fault;
@@ -18,6 +19,7 @@ mod text;
 mod writer;
 mod xdr_fault;
 
+pub use arg_fault::ArgFault;
 pub use codec::Codec;
 pub use counted::{Counted, read_many, write_many};
 pub use item_fault::ItemFault;

@@ -1,12 +1,13 @@
 ghost use Rattle.std.specs.Prelude.{◌≡◌};
-ghost use Rattle.nfs_proto.specs.Arguments.{fault_of};
+ghost use Rattle.sfs_xdr.specs.Faults.{fault_of};
+ghost use Rattle.sfs_xdr.specs.declared.arg_fault.ArgFault.TheVariants.{NoMemory as no_memory};
 
+use crate::item_fault::ItemFault;
 use sfs_base::NoMemory;
-use sfs_xdr::ItemFault;
 use std::error::Error;
 use std::fmt;
 
-/// Why arguments or a result could not be read.
+/// Why the arguments or the result of a procedure could not be read.
 #[derive(Clone, Copy, Debug, PartialEq, Eq)]
 pub enum ArgFault {
     /// There is no such procedure.
@@ -25,6 +26,14 @@ impl From<ItemFault> for ArgFault {
             ItemFault::Malformed => ArgFault::Garbage,
             ItemFault::NoMemory => ArgFault::NoMemory,
         }
+    }
+}
+
+impl From<NoMemory> for ArgFault {
+    ghost from_gives = { λ _ fault. fault ≡ no_memory };
+
+    fn from(_error: NoMemory) -> ArgFault {
+        ArgFault::NoMemory
     }
 }
 
