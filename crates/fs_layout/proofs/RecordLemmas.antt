@@ -28,7 +28,7 @@ unfolding reference_by
 reference_by_fields r = refl
 
 -- references at the front of the same words are the same
-reference_front : (r s : Option Reference) (t u : List ℕ) → reference_words r ++ t ≡ reference_words s ++ u → (r ≡ s) × (t ≡ u)
+pub reference_front : (r s : Option Reference) (t u : List ℕ) → reference_words r ++ t ≡ reference_words s ++ u → (r ≡ s) × (t ≡ u)
 reference_front None None t u e = (refl, cc)
 reference_front None (Some s) t u e = let no_block : 0 ≡ s.block + 1 = cc in absurd (omega arith)
 reference_front (Some r) None t u e = let no_block : r.block + 1 ≡ 0 = cc in absurd (omega arith)
