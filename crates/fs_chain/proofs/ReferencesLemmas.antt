@@ -105,13 +105,9 @@ references_one (r ∷ rs) (s ∷ ss) e =
 
 pub references_fit : (rs : List (Option Reference)) → AreReferences rs → AreWords (references_words rs)
 references_fit [] are = subst AreWords (sym references_none) no_words
-references_fit (r ∷ rs) are = subst AreWords (sym (references-cons r rs)) (AreWords-append (reference_words r) (references_words rs) (reference_fits r are.0) (references_fit rs are.1))
-
--- the one at a place
-pub reference_in : (rs : List (Option Reference)) (i : ℕ) (d : Option Reference) → i < length rs → AreReferences rs → IsReference (get_or rs i d)
-reference_in [] i d inside are = absurd (omega arith)
-reference_in (r ∷ rs) zero d inside are = are.0
-reference_in (r ∷ rs) (suc i) d inside are = reference_in rs i d (omega arith) are.1
+references_fit (r ∷ rs) are =
+    subst AreWords (sym (references-cons r rs))
+    (AreWords-append (reference_words r) (references_words rs) (reference_fits r (are 0 r (omega arith))) (references_fit rs (λ k d below. are (suc k) d (omega arith))))
 
 -- the bytes of the one at a place
 pub bytes_at : (rs : List (Option Reference)) (i : ℕ) → i < length rs → take 8 (drop (8 * i) (spelled (references_words rs))) ≡ spelled (reference_words (get_or rs i None))

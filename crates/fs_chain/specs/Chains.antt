@@ -1,6 +1,6 @@
 -- Chaining blocks.
-use Rattle.std.specs.Prelude.{◌≡◌, ℕ, ◌++◌, List, [], ◌∷◌, length, Option}
-use Rattle.std.specs.List.{flat_map, AllByRecursion}
+use Rattle.std.specs.Prelude.{◌≡◌, ℕ, ◌++◌, List, [], ◌∷◌, length, Option, All}
+use Rattle.std.specs.List.{flat_map}
 use Rattle.fs_layout.specs.declared.reference.Reference.{Reference}
 use Rattle.fs_layout.specs.Words.{AreWords, spelled}
 use Rattle.fs_layout.specs.References.{IsReference, reference_words}
@@ -20,7 +20,7 @@ chain_words c = header_words c.next c.file c.index ++ references_words c.referen
 
 -- references that have words
 abbrev pub AreReferences : List (Option Reference) → Type 0
-AreReferences references = AllByRecursion IsReference references
+AreReferences references = All IsReference references
 
 -- a chaining block whose references have words
 pub record IsChain (c : ChainBlock) : Type 0 where

@@ -1,4 +1,4 @@
-ghost use Rattle.std.specs.Prelude.{◌≡◌, IfSome, length};
+ghost use Rattle.std.specs.Prelude.{◌≡◌, ◌↔◌, IsTrue, IfSome, length};
 ghost use Rattle.fs_chain.specs.declared.chain_block.ChainBlock.{ChainBlock};
 ghost use Rattle.fs_chain.specs.declared.chain_block.Header.{Header};
 ghost use Rattle.fs_chain.specs.Chains.{IsChain, SpellsChain, header_words};
@@ -30,6 +30,19 @@ pub struct ChainBlock {
     pub references: [Option<Reference>; REFERENCES_PER_CHAIN],
 }
 
+impl ChainBlock {
+    /// Whether it can be written: the number of each block to which it refers is below 2^32 - 1.
+    pub fn is_chain(&self) -> bool
+        ensures { IsTrue result ↔ IsChain self.now }
+    {
+        Reference::has_words(self.next)
+            && self
+                .references
+                .iter()
+                .all(|reference| Reference::has_words(*reference))
+    }
+}
+
 /// The chaining block that bytes spell (`docs/FORMATS.md`, "Images"). None exactly where they are no
 /// such block.
 pub fn read_chain(bytes: &[u8]) -> Option<ChainBlock>
@@ -49,8 +62,8 @@ pub fn read_chain(bytes: &[u8]) -> Option<ChainBlock>
     })
 }
 
-/// Writes a chaining block into a block of [`BLOCK_BYTES`] bytes. The number of each block to which it
-/// refers is below 2^32 - 1.
+/// Writes a chaining block that can be written ([`ChainBlock::is_chain`]) into a block of
+/// [`BLOCK_BYTES`] bytes.
 pub fn write_chain(c: &ChainBlock, into: &mut [u8])
     requires fits { IsChain c.now }
     requires room { length into.old ≡ 4096 }

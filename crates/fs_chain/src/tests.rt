@@ -36,9 +36,25 @@ fn sample_bytes() -> [u8; BLOCK_BYTES] {
 #[test]
 fn a_block_is_its_header_and_its_references(rt: HostRuntime) {
     let mut bytes = [9; BLOCK_BYTES];
-    write_chain(&sample(), &mut bytes);
+    let block = sample();
+    assert!(rt; block.is_chain());
+    write_chain(&block, &mut bytes);
     assert_eq!(rt; bytes, sample_bytes());
     assert_eq!(rt; read_chain(&bytes), Some(sample()));
+}
+
+#[test]
+fn a_block_without_a_word_cannot_be_written(rt: HostRuntime) {
+    let far = Some(Reference {
+        memory: 0,
+        block: u32::MAX,
+    });
+    let mut block = sample();
+    block.references[7] = far;
+    assert!(rt; !block.is_chain());
+    let mut block = sample();
+    block.next = far;
+    assert!(rt; !block.is_chain());
 }
 
 #[test]

@@ -87,7 +87,7 @@ impl Attrs {
     {
         self.has_kind()
             && self.mode < MODE_END
-            && self.first.is_none_or(|first| first.block < u32::MAX)
+            && Reference::has_words(self.first)
             && (self.kind != Attrs::FREE || *self == Attrs::free(self.generation, self.change))
             && (self.kind == Attrs::DIRECTORY || (self.parent == 0 && self.names == 0))
     }

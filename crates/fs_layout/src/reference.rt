@@ -1,4 +1,4 @@
-ghost use Rattle.std.specs.Prelude.{◌≡◌, ◌∷◌, [], Option, IfOk};
+ghost use Rattle.std.specs.Prelude.{◌≡◌, ◌∷◌, [], ◌↔◌, Option, IsTrue, IfOk};
 
 use std::error::Error;
 use std::fmt;
@@ -35,6 +35,16 @@ impl Reference {
             Some(block) => Ok(Some(Reference { memory, block })),
             None if memory == 0 => Ok(None),
             None => Err(NotAReference),
+        }
+    }
+
+    /// Whether the reference, or none, has words: a block's number counted from 1 is one.
+    pub fn has_words(reference: Option<Reference>) -> bool
+        ensures { IsTrue result ↔ IsReference reference }
+    {
+        match reference {
+            Some(Reference { block, .. }) => block < u32::MAX,
+            None => true,
         }
     }
 

@@ -145,6 +145,8 @@ fn a_block_counts_from_one_in_a_reference(rt: HostRuntime) {
     assert_eq!(rt; Reference::from_words(0, 1), Ok(Some(first)));
     assert_eq!(rt; Reference::from_words(7, u32::MAX), Ok(Some(last)));
     assert_eq!(rt; Reference::from_words(7, 0), Err(NotAReference));
+    assert!(rt; Reference::has_words(None));
+    assert!(rt; Reference::has_words(Some(last)));
     assert_eq!(rt; Reference::to_words(None), [0, 0]);
     assert_eq!(rt; Reference::to_words(Some(first)), [0, 1]);
     assert_eq!(rt; Reference::to_words(Some(last)), [7, u32::MAX]);
