@@ -31,10 +31,15 @@ impl Reference {
         ensures found { IfOk result (λ r. IsReference r × (reference_words r ≡ memory ∷ place ∷ [])) }
         ensures only { (r : Option Reference) → reference_words r ≡ memory ∷ place ∷ [] → result ≡ Ok r }
     {
-        match place.checked_sub(1) {
-            Some(block) => Ok(Some(Reference { memory, block })),
-            None if memory == 0 => Ok(None),
-            None => Err(NotAReference),
+        if place != 0 {
+            Ok(Some(Reference {
+                memory,
+                block: place - 1,
+            }))
+        } else if memory == 0 {
+            Ok(None)
+        } else {
+            Err(NotAReference)
         }
     }
 
