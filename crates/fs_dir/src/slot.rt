@@ -5,7 +5,7 @@ use fs_layout::{WORD_BYTES, are_zeros, read_words, write_words};
 use sfs_base::{Bytes, Seq};
 use std::alloc::Global;
 
-/// The greatest length of a name (RFC 1094, section 2.3.8).
+/// The greatest length of a name (RFC 1094, section 2.3.7).
 pub const MAX_NAME_BYTES: usize = 255;
 
 /// The words of a slot before its name: the number of the file, and the length of the name.

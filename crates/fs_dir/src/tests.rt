@@ -57,11 +57,21 @@ fn slots_that_no_block_has_are_told(rt: HostRuntime) -> Result<(), Fail> {
         name: Seq::from_slice(alloc, b"a")?,
     };
     assert!(rt; !empty_with_a_name.is_slot());
+    assert!(rt; !empty_with_a_name.is_in_use());
+    assert!(rt; !empty_with_a_name.has_name(b"a"));
     let long = Slot {
         number: 1,
         name: Seq::from_slice(alloc, &[0x61; MAX_NAME_BYTES + 1])?,
     };
     assert!(rt; !long.is_slot());
+    assert!(rt; long.is_in_use());
+    let short = Slot {
+        number: 1,
+        name: Seq::from_slice(alloc, b"a")?,
+    };
+    assert!(rt; short.is_slot());
+    assert!(rt; short.has_name(b"a"));
+    assert!(rt; !short.has_name(b""));
     Ok(())
 }
 
@@ -76,8 +86,8 @@ fn a_block_of_zeros_is_empty(rt: HostRuntime) -> Result<(), Fail> {
 
 #[test]
 fn bytes_that_are_no_slot_are_refused(rt: HostRuntime) {
-    // Where a byte of the sample is changed, and to what: a name of 256 bytes, one of 257, a byte behind a
-    // name, one behind the longest name, one behind the slots, a name without a number.
+    // Where a byte of the sample is changed, and to what: a length of 511, one of 257, a byte behind a name,
+    // one behind the longest name, one behind the slots, a name without a number.
     let changes = [
         (1_366, 1),
         (822, 1),
@@ -98,6 +108,14 @@ fn bytes_that_are_no_slot_are_refused(rt: HostRuntime) {
     }
     assert!(rt; read_slots(rt.alloc(), &sample_bytes()[1..]) == Err(SlotFault::Bad));
     assert!(rt; read_slots(rt.alloc(), &[]) == Err(SlotFault::Bad));
+}
+
+#[test]
+fn a_name_of_256_bytes_is_refused(rt: HostRuntime) {
+    let mut bytes = sample_bytes();
+    bytes[1_366] = 1;
+    bytes[1_367] = 0;
+    assert!(rt; read_slots(rt.alloc(), &bytes) == Err(SlotFault::Bad));
 }
 
 #[test]

@@ -1,5 +1,5 @@
 -- Records and the bytes that spell them.
-use Rattle.std.proofs.Common.{◌≡◌, ℕ, ◌+◌, ◌/◌, ◌%◌, ◌^◌, ◌<◌, List, [], ◌∷◌, ◌++◌, length, take, drop, Option, Some, None, refl, sym, ap, subst, ◌∙◌, arith}
+use Rattle.std.proofs.Common.{◌≡◌, ℕ, ◌+◌, ◌/◌, ◌%◌, ◌^◌, List, ◌∷◌, ◌++◌, length, take, drop, Option, Some, None, refl, sym, ap, subst, ◌∙◌, arith}
 use Rattle.std.specs.Prelude.{replicate, IfSome}
 use Rattle.std.proofs.lemmas.List.{take-append-drop, take_at, drop_at, length-append, length-replicate}
 use Rattle.fs_layout.specs.declared.attrs.Attrs.{Attrs}
@@ -10,7 +10,7 @@ use Rattle.fs_layout.specs.References.{reference_words}
 use Rattle.fs_layout.specs.Inodes.{IsInode, SpellsInode, inode_words}
 use Rattle.fs_layout.specs.Handles.{SpellsHandle, handle_words}
 use Rattle.fs_layout.specs.Superblocks.{SpellsSuperblock, superblock_words}
-use Rattle.fs_layout.specs.Laws.{ReferencesHaveOneValue, InodesHaveOneValue, HandlesHaveOneValue, SuperblocksHaveOneValue}
+use Rattle.fs_layout.specs.Laws.{InodesHaveOneValue, HandlesHaveOneValue, SuperblocksHaveOneValue}
 use Rattle.fs_layout.proofs.WordLemmas.{length-spelled, words_one}
 
 -- ---- references

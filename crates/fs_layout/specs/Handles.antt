@@ -1,5 +1,5 @@
 -- Handles, by which clients name files.
-use Rattle.std.specs.Prelude.{◌≡◌, ℕ, List, [], ◌∷◌, replicate}
+use Rattle.std.specs.Prelude.{◌≡◌, ℕ, List, ◌∷◌, replicate}
 use Rattle.fs_layout.specs.Words.{AreWords, spelled}
 
 -- the mark "SFS1", the file's number and generation, and zeros

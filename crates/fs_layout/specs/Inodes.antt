@@ -1,5 +1,5 @@
 -- Inode records.
-use Rattle.std.specs.Prelude.{◌≡◌, ◌≢◌, ℕ, ◌/◌, ◌%◌, ◌^◌, ◌<◌, ◌⊎◌, List, [], ◌∷◌, ◌++◌, replicate, None}
+use Rattle.std.specs.Prelude.{◌≡◌, ◌≢◌, ℕ, ◌/◌, ◌%◌, ◌^◌, ◌<◌, ◌⊎◌, List, ◌∷◌, ◌++◌, replicate, None}
 use Rattle.fs_layout.specs.declared.attrs.Attrs.{Attrs}
 use Rattle.fs_layout.specs.Words.{AreWords, spelled}
 use Rattle.fs_layout.specs.References.{IsReference, reference_words}

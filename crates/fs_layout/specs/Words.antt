@@ -1,5 +1,5 @@
 -- A record is a list of words: numbers below 2 ^ 32, of four bytes each.
-use Rattle.std.specs.Prelude.{◌≡◌, ℕ, ◌^◌, ◌<◌, List, [], ◌∷◌, ◌++◌, slice_index}
+use Rattle.std.specs.Prelude.{ℕ, ◌^◌, ◌<◌, List, [], ◌∷◌, ◌++◌, slice_index}
 use Rattle.std.specs.Int.{w32, to_be_bytes}
 
 -- every element is a word

@@ -1,4 +1,4 @@
-use Rattle.std.proofs.Common.{rules, ◌≡◌, ℕ, List, ◌++◌, ap, subst, sym, ◌∙◌, length, replicate, arith}
+use Rattle.std.proofs.Common.{rules, ◌≡◌, ℕ, List, ◌++◌, ap, subst, ◌∙◌, length, replicate, arith}
 use Rattle.fs_layout.specs.Words.{AreWords, spelled}
 use Rattle.fs_layout.specs.Superblocks.{superblock_words}
 use Rattle.fs_layout.proofs.superblock.write_superblock.Goals as goal
