@@ -3,8 +3,8 @@ use Rattle.std.proofs.Common.{◌≡◌, ℕ, Bool, true, false, cond, List, [],
 use Rattle.std.proofs.lemmas.Bool.{cases_eq}
 use Rattle.tx_rules.specs.Mini.{In, Setting, nodes_of, cells_of, IsFresh, AreApart, flat}
 use Rattle.tx_rules.specs.Decision.{Grant, Commit, Abort, Forget, IsOpen}
-use Rattle.tx_rules.specs.World.{Granted, Refused, World, opened, after_all}
-use Rattle.tx_rules.specs.Laws.{DecisionsExclude, DecisionsStay, LoggedDecisionsAgree, ForgottenIsOver, PromisesAreKept, VotesCommit, RefusedNeverCommits, LocksAreApart, LocksStayApart, PointsAreTheCommitted, AllMatch, PointsMatch, history, HistoryIsFlat, ReadsAreFlat, LooksAreFlat, ImagesAreFlat, UnlockedIsFlat, IsPoint}
+use Rattle.tx_rules.specs.World.{Message, Granted, Looked, Refused, World, opened, Event, Begins, Grants, Completes, Refuses, Commits, Aborts, Forgets, Posts, May, after, IsRun, after_all}
+use Rattle.tx_rules.specs.Laws.{DecisionsExclude, DecisionsStay, LoggedDecisionsAgree, ForgottenIsOver, PromisesAreKept, VotesCommit, RefusedNeverCommits, LocksAreApart, LocksStayApart, PointsAreTheCommitted, AllMatch, PointsMatch, history, HistoryIsFlat, ReadsAreFlat, LooksAreFlat, LooksHadTheirMoment, ImagesAreFlat, UnlockedIsFlat, IsPoint}
 use Rattle.tx_rules.proofs.GrowthLemmas.{committed_grows, aborted_grows, over_grows, decided_grows}
 use Rattle.tx_rules.proofs.FaithfulLemmas.{not_both}
 use Rattle.tx_rules.proofs.StoredLemmas.{AreRead, pending_touched}
@@ -187,6 +187,41 @@ looks_are_flat s log image o events run m t bytes may =
       may.1.now ∙ map_same (w.image m) (flat s w.points m) ((s.mini t).reads m) (λ a h. same a (mini.read m a h)),
       λ want h. sym (same want.0 (mini.compared m want h)) ∙ may.1.matching want h,
     )
+
+-- a message that is posted later was posted by an event
+posted_then : (s : Setting) (w : World) (e : Event) (events : List Event) (p : Message) → In p (after s w e).posted
+    → In p w.posted ⊎ ((first : List Event) × (rest : List Event) × (e ∷ events ≡ first ++ Posts p ∷ rest))
+posted_then s w (Begins t) events p h = inl h
+posted_then s w (Grants m t) events p h = inl h
+posted_then s w (Completes m t) events p h = inl h
+posted_then s w (Refuses m t) events p h = inl h
+posted_then s w (Commits m t) events p h = inl h
+posted_then s w (Aborts m t) events p h = inl h
+posted_then s w (Forgets m t) events p h = inl h
+posted_then s w (Posts q) events p h = elim h [ inl is ↦ inr ([], events, ap (λ (x : Message). Posts x ∷ events) (sym is)) | inr before ↦ inl before ]
+
+posted_when : (s : Setting) (w : World) (events : List Event) (p : Message) → In p (after_all s w events).posted
+    → In p w.posted ⊎ ((first : List Event) × (rest : List Event) × (events ≡ first ++ Posts p ∷ rest))
+posted_when s w [] p h = inl h
+posted_when s w (e ∷ events) p h = elim (posted_when s (after s w e) events p h) [
+  | inl before ↦ posted_then s w e events p before
+  | inr it ↦ inr (e ∷ it.0, it.1, ap (λ (x : List Event). e ∷ x) it.2)
+]
+
+-- the first events of a run are a run, and the next one may happen there
+run_first : (s : Setting) (w : World) (first : List Event) (e : Event) (rest : List Event) → IsRun s w (first ++ e ∷ rest)
+    → IsRun s w first × May s (after_all s w first) e
+run_first s w [] e rest run = (tt, run.0)
+run_first s w (x ∷ first) e rest run = let it = run_first s (after s w x) first e rest run.1 in ((run.0, it.0), it.1)
+
+pub looks_had_their_moment : LooksHadTheirMoment
+looks_had_their_moment s log image o events run m t bytes posted = elim (posted_when s (opened s log image) events (Looked m t bytes) posted) [
+  | inl none ↦ absurd none
+  | inr it ↦
+      let first = run_first s (opened s log image) it.0 (Posts (Looked m t bytes)) it.1 (subst (IsRun s (opened s log image)) it.2 run) in
+      let flat_there = looks_are_flat s log image o it.0 first.0 m t bytes first.1 in
+      (it.0, it.1, it.2, flat_there.0, flat_there.1)
+]
 
 pub images_are_flat : ImagesAreFlat
 images_are_flat s log image o events run m a =

@@ -230,7 +230,7 @@ module _ (s : Setting) (w : World) (f : IsFaithful s w) (i : IsStored s w.log w.
 
     -- by the last participant: its record is open at all of them
     module _ (all : IsCommitted s (At m (Grant t) ∷ w.log) t) where
-      complete_open : (n : ℕ) → In n (nodes_of s t) → IsOpen (At m (Grant t) ∷ w.log) n t
+      pub complete_open : (n : ℕ) → In n (nodes_of s t) → IsOpen (At m (Grant t) ∷ w.log) n t
       complete_open n is = record {
         granted = all n is;
         undecided = λ d. elim d [

@@ -110,6 +110,15 @@ abbrev pub LooksAreFlat : Type 0
 LooksAreFlat = AlwaysHolds (λ s w. (m t : ℕ) (bytes : List ℕ) → May s w (Posts (Looked m t bytes))
     → (bytes ≡ reads_of s t m (flat s w.points m)) × Matches s t m (flat s w.points m))
 
+-- so each that was posted has such a moment in the run
+abbrev pub LooksHadTheirMoment : Type 0
+LooksHadTheirMoment = (s : Setting) (log : List Entry) (image : Memory) → IsOpening s log image
+    → (events : List Event) → IsRun s (opened s log image) events
+    → (m t : ℕ) (bytes : List ℕ) → In (Looked m t bytes) (after_all s (opened s log image) events).posted
+    → (first rest : List Event) × (events ≡ first ++ Posts (Looked m t bytes) ∷ rest)
+    × (bytes ≡ reads_of s t m (flat s (after_all s (opened s log image) first).points m))
+    × Matches s t m (flat s (after_all s (opened s log image) first).points m)
+
 -- the flat memory has the writes that committed identifiers still have to come at a memory node; elsewhere it is what
 -- the memory nodes hold
 abbrev pub ImagesAreFlat : Type 0

@@ -1,5 +1,5 @@
 //! Laws of the transaction protocol: each holds of every run of its rules.
-ghost use Rattle.tx_rules.specs.Laws.{FormattedOpens, DecisionsExclude, DecisionsStay, LoggedDecisionsAgree, ForgottenIsOver, PromisesAreKept, VotesCommit, RefusedNeverCommits, LocksAreApart, LocksStayApart, PointsAreTheCommitted, PointsMatch, HistoryIsFlat, ReadsAreFlat, LooksAreFlat, ImagesAreFlat, UnlockedIsFlat};
+ghost use Rattle.tx_rules.specs.Laws.{FormattedOpens, DecisionsExclude, DecisionsStay, LoggedDecisionsAgree, ForgottenIsOver, PromisesAreKept, VotesCommit, RefusedNeverCommits, LocksAreApart, LocksStayApart, PointsAreTheCommitted, PointsMatch, HistoryIsFlat, ReadsAreFlat, LooksAreFlat, LooksHadTheirMoment, ImagesAreFlat, UnlockedIsFlat};
 
 /// A formatted cluster opens.
 pub fn formatted_opens()
@@ -74,6 +74,11 @@ pub fn reads_are_flat()
 /// The bytes of a Granted vote without an entry are those of the flat memory when it is posted.
 pub fn looks_are_flat()
     ensures { LooksAreFlat }
+{}
+
+/// Each posted Granted vote without an entry has a moment in the run at which its bytes were the flat memory's.
+pub fn looks_had_their_moment()
+    ensures { LooksHadTheirMoment }
 {}
 
 /// The flat memory is what the memory nodes hold, but for writes that are still to come.
