@@ -25,7 +25,7 @@ after_append s w (x ∷ xs) ys = after_append s (after s w x) xs ys
 
 -- ---- grants of all participants
 
-all_granted-is : (log : List Entry) (t : ℕ) (ms : List ℕ) → all_granted log t ms ≡ true → (m : ℕ) → In m ms → IsGranted log m t
+pub all_granted-is : (log : List Entry) (t : ℕ) (ms : List ℕ) → all_granted log t ms ≡ true → (m : ℕ) → In m ms → IsGranted log m t
 all_granted-is log t [] h m is = absurd is
 all_granted-is log t (n ∷ ms) h m is =
     let both = and_parts (has_grant (own n log) t) (all_granted log t ms) h in
@@ -34,7 +34,7 @@ all_granted-is log t (n ∷ ms) h m is =
       | inr rest ↦ all_granted-is log t ms both.1 m rest
     ]
 
-is-all_granted : (log : List Entry) (t : ℕ) (ms : List ℕ) → ((m : ℕ) → In m ms → IsGranted log m t) → all_granted log t ms ≡ true
+pub is-all_granted : (log : List Entry) (t : ℕ) (ms : List ℕ) → ((m : ℕ) → In m ms → IsGranted log m t) → all_granted log t ms ≡ true
 is-all_granted log t [] all = refl
 is-all_granted log t (n ∷ ms) all =
     ap (λ b. b && all_granted log t ms) (In-has_grant (own n log) t (log-own n (Grant t) log (all n (inl refl))))
