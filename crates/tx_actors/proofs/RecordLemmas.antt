@@ -283,7 +283,7 @@ kept_in-is s log m t h =
     let chosen = filter (is_kept s (own m log)) (granted_in (own m log)) in
     kept_is s log m t (In-filter (is_kept s (own m log)) t (granted_in (own m log)) (In-sorted t chosen (In-take 64 t (sorted chosen) h))).1
 
-In-granted_in : (rs : List Record) (t : ℕ) → In (Grant t) rs → In t (granted_in rs)
+pub In-granted_in : (rs : List Record) (t : ℕ) → In (Grant t) rs → In t (granted_in rs)
 In-granted_in [] t h = absurd h
 In-granted_in (Grant u ∷ rs) t h = elim h [ inl e ↦ inl (one t u e) | inr r ↦ inr (In-granted_in rs t r) ]
   where

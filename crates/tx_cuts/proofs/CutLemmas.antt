@@ -7,7 +7,7 @@ use Rattle.tx_rules.specs.World.{World, Event, Begins, Grants, Completes, Refuse
 use Rattle.tx_rules.specs.Opening.{IsOpening}
 use Rattle.tx_rules.proofs.GrowthLemmas.{one_node, one_record}
 use Rattle.tx_rules.proofs.SoundLemmas.{IsSound, sound_after, sound_opening}
-use Rattle.tx_cuts.specs.Cut.{CutMessage, Hold, HeldOk, HeldLocked, HeldPast, Release, Drop, Read, Piece, PieceNone, Copy, Cuts, opened_cuts, IsCutPassed, IsHolding, IsMade, part, CutPromises, CutEvent, Does, Holds, Raises, Releases, Loses, Makes, Sends, IsClear, MayCut, with_copy, after_cut, IsCutRun, after_cuts}
+use Rattle.tx_cuts.specs.Cut.{CutMessage, Hold, HeldOk, HeldLocked, HeldPast, Release, Drop, Read, Piece, PieceNone, StillHeld, Copy, Cuts, opened_cuts, IsCutPassed, IsHolding, IsMade, part, CutPromises, CutEvent, Does, Holds, Raises, Releases, Loses, Makes, Sends, IsClear, MayCut, with_copy, after_cut, IsCutRun, after_cuts}
 
 -- ---- what the transactions leave where a cut is held
 
@@ -116,6 +116,7 @@ promises_stay s k j floors made (Drop c) h = tt
 promises_stay s k j floors made (Read m c place) h = (h.0, made (c, h.0) h.1)
 promises_stay s k j floors made (Piece m c place bytes) h = (h.0, made (c, h.0) h.1, h.2, h.3)
 promises_stay s k j floors made (PieceNone m c place) h = tt
+promises_stay s k j floors made (StillHeld m c) h = tt
 
 -- the flat memory at a memory node without an undecided record is its image
 pub closed_flat : (s : Setting) (w : World) → IsSound s w → (m : ℕ) → ((t : ℕ) → ¬ IsOpen w.log m t) → (a : ℕ) → flat s w.points m a ≡ w.image m a

@@ -1,3 +1,5 @@
 pub mod CutLemmas
 pub mod LawLemmas
 pub mod CrashLemmas
+pub mod BackupLemmas
+pub mod WholeLemmas

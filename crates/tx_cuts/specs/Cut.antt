@@ -16,6 +16,8 @@ pub data CutMessage : Type 0 where
   Read : ℕ → ℕ → ℕ → CutMessage
   Piece : ℕ → ℕ → ℕ → List ℕ → CutMessage
   PieceNone : ℕ → ℕ → ℕ → CutMessage
+  -- the cut that an answer to `list` names
+  StillHeld : ℕ → ℕ → CutMessage
 
 -- the copy of an image, of a cut that is held or was released
 pub record Copy : Type 0 where

@@ -5,8 +5,10 @@ use Rattle.tx_rules.specs.Decision.{Record, Entry, IsOpen, IsCommitted}
 use Rattle.tx_rules.specs.World.{World, Event, Grants, Completes, Refuses, Commits, Aborts, Forgets, IsRun, after_all}
 use Rattle.tx_rules.specs.Opening.{IsOpening}
 use Rattle.tx_rules.specs.Laws.{AlwaysHolds}
-use Rattle.tx_actors.specs.Machine.{appending}
+use Rattle.tx_actors.specs.Machine.{appending, IsAboveKnown}
+use Rattle.tx_actors.specs.Laws.{IsFitting}
 use Rattle.tx_cuts.specs.Cut.{CutMessage, Copy, Cuts, opened_cuts, CutEvent, Does, CutPromises, IsCutRun, after_cuts}
+use Rattle.tx_cuts.specs.Backup.{BackedUp, Whole, WholeInput, whole_steps, opened_whole, images_in}
 
 -- ---- cuts
 
@@ -102,3 +104,26 @@ AreDistinct (x ∷ rest) = ((y : ℕ × List Record) → In y rest → ¬ (y.0 �
 abbrev pub CrashImagesAreReached : Type 0
 CrashImagesAreReached = (s : Setting) (w : World) (durable : List (ℕ × List Record)) → AreDistinct durable
     → ((x : ℕ × List Record) → In x durable → IsRun s w (appending s w x.0 x.1)) → IsRun s w (appending_all s w durable)
+
+-- ---- backups
+
+-- it holds of every state that the whole reaches from any opening by any inputs, with images of any size at any
+-- memory nodes
+abbrev pub AlwaysBacked : (Setting → ℕ → List ℕ → Whole → Type 0) → Type 0
+AlwaysBacked P = (s : Setting) (size : ℕ) (ms : List ℕ) (log : List Entry) (image : Memory) (floors : List (ℕ × ℕ)) (next : ℕ → ℕ) (next_cut : ℕ)
+    → IsOpening s log image → IsAboveKnown s next → (inputs : List WholeInput)
+    → IsFitting s (whole_steps s size ms (opened_whole s log image floors next next_cut) inputs).cuts.world
+    → P s size ms (whole_steps s size ms (opened_whole s log image floors next next_cut) inputs)
+
+-- every state that the whole reaches is reached by a run with cuts
+abbrev pub WholesAreCutRuns : Type 0
+WholesAreCutRuns = (s : Setting) (size : ℕ) (ms : List ℕ) (log : List Entry) (image : Memory) (floors : List (ℕ × ℕ)) (next : ℕ → ℕ) (next_cut : ℕ)
+    → IsOpening s log image → IsAboveKnown s next → (inputs : List WholeInput)
+    → IsFitting s (whole_steps s size ms (opened_whole s log image floors next next_cut) inputs).cuts.world
+    → (events : List CutEvent) × IsCutRun s ms (opened_cuts s log image floors) events
+    × ((whole_steps s size ms (opened_whole s log image floors next next_cut) inputs).cuts ≡ after_cuts s (opened_cuts s log image floors) events)
+
+-- a backup that is done has the images of all memory nodes in the flat memory at its cut
+abbrev pub BackupsAreFlat : Type 0
+BackupsAreFlat = AlwaysBacked (λ s size ms x. (c : ℕ) (images : List (List ℕ)) → In (BackedUp c images) x.endings
+    → (points : List ℕ) × In (c, points) x.cuts.made × (images ≡ images_in size ms (flat s points)))

@@ -1,2 +1,3 @@
 pub mod Cut
+pub mod Backup
 pub mod Laws

@@ -1,5 +1,5 @@
 //! Laws of cuts, openings and crashes.
-ghost use Rattle.tx_cuts.specs.Laws.{CutRunsAreRuns, CopiesAreFlat, CutPromisesAreKept, CutsAreMadeOnce, HoldsAreStill, OpensAgain, RecordsMayWait, CrashImagesAreReached};
+ghost use Rattle.tx_cuts.specs.Laws.{CutRunsAreRuns, CopiesAreFlat, CutPromisesAreKept, CutsAreMadeOnce, HoldsAreStill, OpensAgain, RecordsMayWait, CrashImagesAreReached, WholesAreCutRuns, BackupsAreFlat};
 
 /// With cuts the transactions still run by their rules.
 pub fn cut_runs_are_runs()
@@ -39,4 +39,14 @@ pub fn records_may_wait()
 /// Whichever appends of memory nodes that went down are durable, the logs are those of a run.
 pub fn crash_images_are_reached()
     ensures { CrashImagesAreReached }
+{}
+
+/// Every state that the actors reach, with backups, is reached by a run with cuts.
+pub fn wholes_are_cut_runs()
+    ensures { WholesAreCutRuns }
+{}
+
+/// A backup that is done has the images of all memory nodes in the flat memory at its cut.
+pub fn backups_are_flat()
+    ensures { BackupsAreFlat }
 {}
