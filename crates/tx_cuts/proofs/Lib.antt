@@ -3,3 +3,5 @@ pub mod LawLemmas
 pub mod CrashLemmas
 pub mod BackupLemmas
 pub mod WholeLemmas
+pub mod SoundnessLemmas
+pub mod SampleLemmas

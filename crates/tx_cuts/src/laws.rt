@@ -1,5 +1,7 @@
 //! Laws of cuts, openings and crashes.
 ghost use Rattle.tx_cuts.specs.Laws.{CutRunsAreRuns, CopiesAreFlat, CutPromisesAreKept, CutsAreMadeOnce, HoldsAreStill, OpensAgain, RecordsMayWait, CrashImagesAreReached, WholesAreCutRuns, BackupsAreFlat};
+ghost use Rattle.tx_cuts.specs.Sound.{SoundOpens, RunsAreSound};
+ghost use Rattle.tx_cuts.specs.Sample.{BackupEndsWell};
 
 /// With cuts the transactions still run by their rules.
 pub fn cut_runs_are_runs()
@@ -49,4 +51,19 @@ pub fn wholes_are_cut_runs()
 /// A backup that is done has the images of all memory nodes in the flat memory at its cut.
 pub fn backups_are_flat()
     ensures { BackupsAreFlat }
+{}
+
+/// A cluster opens from logs and images that are sound, with the settled memory.
+pub fn sound_opens()
+    ensures { SoundOpens }
+{}
+
+/// What any run leaves at any moment is sound for the flat memory at that moment.
+pub fn runs_are_sound()
+    ensures { RunsAreSound }
+{}
+
+/// A backup beside two minitransactions, of which one is refused while the cut is held.
+pub fn backup_ends_well()
+    ensures { BackupEndsWell }
 {}

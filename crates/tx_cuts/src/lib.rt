@@ -10,7 +10,7 @@
 mod laws;
 
 pub use laws::{
-    backups_are_flat, copies_are_flat, crash_images_are_reached, cut_promises_are_kept,
-    cut_runs_are_runs, cuts_are_made_once, holds_are_still, opens_again, records_may_wait,
-    wholes_are_cut_runs,
+    backup_ends_well, backups_are_flat, copies_are_flat, crash_images_are_reached,
+    cut_promises_are_kept, cut_runs_are_runs, cuts_are_made_once, holds_are_still, opens_again,
+    records_may_wait, runs_are_sound, sound_opens, wholes_are_cut_runs,
 };
