@@ -1,20 +1,21 @@
 -- The laws.
 use Rattle.std.proofs.Common.{◌≡◌, ℕ, ◌+◌, ◌*◌, ◌/◌, ◌^◌, ◌==◌, Bool, true, false, cond, List, [], ◌∷◌, ◌++◌, Option, Some, None, unwrap_or, inl, inr, refl, sym, ap, ◌∙◌, subst, arith, append_assoc}
-use Rattle.std.proofs.lemmas.Bool.{eq-eqb, ne_eqb, cases_eq, cases_order}
+use Rattle.std.proofs.lemmas.Bool.{eq-eqb, ne_eqb, cases_eq, cases_order, cases_Bool}
 use Rattle.std.proofs.lemmas.Nat.{div-mul-add}
 use Rattle.tx_rules.specs.Mini.{In, is_logged, Setting, nodes_of, reads_of, flat, with_writes}
 use Rattle.tx_rules.specs.Decision.{Record, Grant, Refuse, Commit, Abort, Forget, Entry, At, IsPassed}
 use Rattle.tx_rules.specs.World.{Message, Prepare, Granted, Looked, Refused, DecideCommit, DecideAbort, Done, Forgotten, ListKept, Kept, Ask, AnswerOk, AnswerAbort, World, Event, Begins, Grants, Completes, Refuses, Commits, Aborts, Forgets, Posts, after}
 use Rattle.tx_rules.proofs.FaithfulLemmas.{not_both, in_back}
-use Rattle.tx_rules.proofs.LawLemmas.{reads_are_flat}
-use Rattle.tx_actors.specs.Node.{own, Standing, Above, Same, Below, standing, replayed}
+use Rattle.tx_rules.proofs.LawLemmas.{reads_are_flat, looks_had_their_moment}
+use Rattle.tx_actors.specs.Node.{own, is_kept, Standing, Above, Same, Below, standing, replayed}
 use Rattle.tx_actors.specs.Coordinator.{Outcome, Committed, Failed, may_begin, begin}
 use Rattle.tx_actors.specs.Machine.{State, Input, Begin, ToNode, ToStoppingNode, ToCoordinator, ToManager, GiveUp, Resend, BootCoordinator, BootNode, Sweep, ResendManager, BootManager, numbered, idle, acts, to_node, to_coordinator, to_manager, step, steps, events_of, opened_at}
-use Rattle.tx_actors.specs.Laws.{StatesAreRuns, OutcomesStand, OutcomesStay, FailedNeverCommits, CommittedReadsAreFlat, UndecidedIsOpen, AboveIsNotPassed, ImagesAreReplayed}
+use Rattle.tx_actors.specs.Laws.{StatesAreRuns, OutcomesStand, OutcomesStay, FailedNeverCommits, CommittedReadsAreFlat, LooksOfOutcomesAreFlat, ReactionsAreAllowed, UndecidedIsOpen, AboveIsNotPassed, FloorsAreGreatest, RecordsAreKept, ImagesAreReplayed}
 use Rattle.tx_actors.specs.Numbers.{identifier, IdentifiersAreOrdered, IdentifiersTellTheirCoordinator}
 use Rattle.tx_actors.specs.Sample.{SampleEndsWell}
 use Rattle.tx_actors.proofs.TestLemmas.{not_two}
-use Rattle.tx_actors.proofs.RecordLemmas.{StandsSo, standing_is, cast_log, above_not_passed, open_is, is_open}
+use Rattle.tx_actors.proofs.NodeLemmas.{handle_good}
+use Rattle.tx_actors.proofs.RecordLemmas.{IsFloor, floor_is, kept_is, not_kept, kept_remembered, StandsSo, standing_is, cast_log, above_not_passed, open_is, is_open}
 use Rattle.tx_actors.proofs.MachineLemmas.{steps_reach, opening_fit}
 
 pub states_are_runs : StatesAreRuns
@@ -54,6 +55,25 @@ committed_reads_are_flat s log image next o above inputs fitting t votes ended l
           v.0 t v.1 posted vote.0 later before split
       | inr posted ↦ absurd (not_two (is_logged (s.mini t)) logged (r.fit.sound.faithful.promises (Looked v.0 t v.1) posted).3)
     ]
+
+pub looks_of_outcomes_are_flat : LooksOfOutcomesAreFlat
+looks_of_outcomes_are_flat s log image next o above inputs fitting t votes ended reader v counted =
+    let r = steps_reach s (opened_at s log image next) inputs (opening_fit s log image next o above) fitting in
+    let stands = r.fit.outcomes (Committed t votes) ended in
+    let vote = stands.3 v counted in
+    elim vote.1 [
+      | inl posted ↦
+          let granted = (r.fit.sound.faithful.promises (Granted v.0 t v.1) posted).2 in
+          absurd (not_two (is_logged (s.mini t)) (r.fit.sound.faithful.stands v.0 (Grant t) granted stands.1).1 reader)
+      | inr posted ↦ looks_had_their_moment s log image o (events_of s (opened_at s log image next) inputs) r.run v.0 t v.1
+          (subst (λ (w : World). In (Looked v.0 t v.1) w.posted) r.world posted)
+    ]
+
+pub reactions_are_allowed : ReactionsAreAllowed
+reactions_are_allowed s log image next o above inputs fitting m held message posted =
+    let st = steps s (opened_at s log image next) inputs in
+    let r = steps_reach s (opened_at s log image next) inputs (opening_fit s log image next o above) fitting in
+    (handle_good s st.world r.fit.sound m held message (r.fit.sound.faithful.promises message posted)).0
 
 -- an input only adds outcomes
 outcomes_after : (s : Setting) (st : State) (input : Input) (o : Outcome) → In o st.outcomes → In o (step s st input).outcomes
@@ -121,6 +141,23 @@ above_is_not_passed s log m t = (
     only above Above is = refl
     only above (Same vote) is = absurd (above (record { by = t; cast = cast_log m vote t log is; same = refl; above = omega arith }))
     only above Below is = absurd (above (let less = is.3 in record { by = is.0; cast = cast_log m is.1.0 is.0 log is.1.1; same = is.2; above = omega (arith, less) }))
+
+pub floors_are_greatest : FloorsAreGreatest
+floors_are_greatest s rs c = (
+  λ none u vote h. subst (IsFloor s rs c) none (floor_is s rs c) u (vote, h),
+  λ t vote is.
+      let top = subst (IsFloor s rs c) is (floor_is s rs c) in
+      (top.cast, top.same, λ u other h same. top.greatest u (other, h) same),
+)
+
+pub records_are_kept : RecordsAreKept
+records_are_kept s log m t = (
+  λ h. let k = kept_is s log m t h in (k.0, k.1, kept_remembered s log m t h),
+  λ h. elim (cases_Bool (is_kept s (own m log) t)) [
+    | inl is ↦ is
+    | inr gone ↦ absurd (h.2 (not_kept s log m t gone h.0 h.1))
+  ],
+)
 
 -- ---- images
 

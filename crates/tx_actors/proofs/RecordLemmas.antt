@@ -58,6 +58,20 @@ has_forget-In (Refuse u ∷ rs) t h = inr (has_forget-In rs t h)
 has_forget-In (Commit u ∷ rs) t h = inr (has_forget-In rs t h)
 has_forget-In (Abort u ∷ rs) t h = inr (has_forget-In rs t h)
 
+pub In-has_forget : (rs : List Record) (t : ℕ) → In (Forget t) rs → has_forget rs t ≡ true
+In-has_forget [] t h = absurd h
+In-has_forget (Forget u ∷ rs) t h = elim h [
+  | inl e ↦ or_left (u == t) (has_forget rs t) (eq-eqb u t (one u t (sym e)))
+  | inr r ↦ or_right (u == t) (has_forget rs t) (In-has_forget rs t r)
+]
+  where
+    one : (x y : ℕ) → Forget x ≡ Forget y → x ≡ y
+    one x y e = cc
+In-has_forget (Grant u ∷ rs) t h = elim h [ inl e ↦ absurd cc | inr r ↦ In-has_forget rs t r ]
+In-has_forget (Refuse u ∷ rs) t h = elim h [ inl e ↦ absurd cc | inr r ↦ In-has_forget rs t r ]
+In-has_forget (Commit u ∷ rs) t h = elim h [ inl e ↦ absurd cc | inr r ↦ In-has_forget rs t r ]
+In-has_forget (Abort u ∷ rs) t h = elim h [ inl e ↦ absurd cc | inr r ↦ In-has_forget rs t r ]
+
 -- a decision in a list of records
 abbrev pub DecidedIn : List Record → ℕ → Type 0
 DecidedIn rs t = In (Commit t) rs ⊎ In (Abort t) rs
@@ -277,6 +291,13 @@ not_kept s log m t h granted several =
         | inr some ↦ own-log m (Forget t) log (has_forget-In (own m log) t (not-false (has_forget (own m log) t) some))
       ]
     ]
+
+-- a kept record is not forgotten
+pub kept_remembered : (s : Setting) (log : List Entry) (m t : ℕ) → is_kept s (own m log) t ≡ true → ¬ In (At m (Forget t)) log
+kept_remembered s log m t h forgotten =
+    let both = and_parts (has_grant (own m log) t) (has_several (nodes_of s t) && not (has_forget (own m log) t)) h in
+    let none = not-true (has_forget (own m log) t) (and_parts (has_several (nodes_of s t)) (not (has_forget (own m log) t)) both.1).1 in
+    not_two (has_forget (own m log) t) (In-has_forget (own m log) t (log-own m (Forget t) log forgotten)) none
 
 pub kept_in-is : (s : Setting) (log : List Entry) (m t : ℕ) → In t (kept_in s (own m log)) → IsGranted log m t × (has_several (nodes_of s t) ≡ true)
 kept_in-is s log m t h =

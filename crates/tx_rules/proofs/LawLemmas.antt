@@ -1,12 +1,12 @@
 -- The laws.
-use Rattle.std.proofs.Common.{◌≡◌, ℕ, Bool, true, false, cond, List, [], ◌∷◌, ◌++◌, map, Option, unwrap_or, ◌⊎◌, inl, inr, refl, sym, ap, ◌∙◌, subst}
+use Rattle.std.proofs.Common.{◌≡◌, ℕ, Bool, true, false, cond, List, [], ◌∷◌, ◌++◌, map, Option, Some, None, unwrap_or, ◌⊎◌, inl, inr, refl, sym, ap, ◌∙◌, subst}
 use Rattle.std.proofs.lemmas.Bool.{cases_eq}
 use Rattle.tx_rules.specs.Mini.{In, Setting, nodes_of, cells_of, IsFresh, AreApart, flat}
 use Rattle.tx_rules.specs.Decision.{Grant, Commit, Abort, Forget, IsOpen}
 use Rattle.tx_rules.specs.World.{Message, Granted, Looked, Refused, World, opened, Event, Begins, Grants, Completes, Refuses, Commits, Aborts, Forgets, Posts, May, after, IsRun, after_all}
-use Rattle.tx_rules.specs.Laws.{DecisionsExclude, DecisionsStay, LoggedDecisionsAgree, ForgottenIsOver, PromisesAreKept, VotesCommit, RefusedNeverCommits, LocksAreApart, LocksStayApart, PointsAreTheCommitted, AllMatch, PointsMatch, history, HistoryIsFlat, ReadsAreFlat, LooksAreFlat, LooksHadTheirMoment, ImagesAreFlat, UnlockedIsFlat, IsPoint}
+use Rattle.tx_rules.specs.Laws.{DecisionsExclude, DecisionsStay, LoggedDecisionsAgree, ForgottenIsOver, PromisesAreKept, VotesCommit, RefusedNeverCommits, LocksAreApart, LocksStayApart, PointsAreTheCommitted, AllMatch, PointsMatch, history, HistoryIsFlat, OpenPointsTrade, ReadsAreFlat, LooksAreFlat, LooksHadTheirMoment, ImagesAreFlat, UnlockedIsFlat, IsPoint}
 use Rattle.tx_rules.proofs.GrowthLemmas.{committed_grows, aborted_grows, over_grows, decided_grows}
-use Rattle.tx_rules.proofs.FaithfulLemmas.{not_both}
+use Rattle.tx_rules.proofs.FaithfulLemmas.{not_both, in_back}
 use Rattle.tx_rules.proofs.StoredLemmas.{AreRead, pending_touched}
 use Rattle.tx_rules.proofs.SoundLemmas.{IsSound, always_sound, sound_after_all, grows_all, not_fresh_all}
 
@@ -157,9 +157,25 @@ pub history_is_flat : HistoryIsFlat
 history_is_flat s log image o events run =
     let w = after_all s (opened s log image) events in
     let sound = always_sound s log image o events run in (
-      history_flat s w sound w.points sound.faithful.points,
+      λ later before split. history_flat s w sound before (λ t h. sound.faithful.points t (subst (In t) (sym split) (in_back t later before h))),
       history_match s w sound w.points sound.faithful.points (points_match s w sound w.points sound.faithful.points sound.stored.read),
     )
+
+-- ---- the order of points
+
+trade : (x y : Option ℕ) (v : ℕ) → ((b c : ℕ) → x ≡ Some b → y ≡ Some c → ⊥) → unwrap_or x (unwrap_or y v) ≡ unwrap_or y (unwrap_or x v)
+trade None y v apart = refl
+trade (Some b) None v apart = refl
+trade (Some b) (Some c) v apart = absurd (apart b c refl refl)
+
+pub open_points_trade : OpenPointsTrade
+open_points_trade s log image o events run t u fresh_t fresh_u differ begun_t begun_u open_t open_u points m a =
+    let w = after_all s (opened s log image) events in
+    let sound = always_sound s log image o events run in
+    let write_t = (sound.faithful.minis t begun_t fresh_t.0).written m a in
+    let write_u = (sound.faithful.minis u begun_u fresh_u.0).written m a in
+    trade ((s.mini t).writes m a) ((s.mini u).writes m a) (flat s points m a) (λ b c is_t is_u.
+    sound.stored.apart m t u fresh_t (open_t m (write_t b is_t).0) (open_u m (write_u c is_u).0) differ a (write_t b is_t).1 (write_u c is_u).1)
 
 -- ---- reads and images
 

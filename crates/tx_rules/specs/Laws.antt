@@ -93,9 +93,17 @@ PointsMatch = AlwaysHolds (λ s w. AllMatch s w.points)
 abbrev pub history : Setting → List ℕ → List ℕ
 history s points = filter (λ t. (s.mini t).has_write) points
 
--- it gives the same flat memory as all points, and each of its minitransactions matches the memory that it is applied to
+-- after each point it gives the same flat memory as all points so far, and each of its minitransactions matches the
+-- memory that it is applied to
 abbrev pub HistoryIsFlat : Type 0
-HistoryIsFlat = AlwaysHolds (λ s w. ((m a : ℕ) → flat s (history s w.points) m a ≡ flat s w.points m a) × AllMatch s (history s w.points))
+HistoryIsFlat = AlwaysHolds (λ s w. ((later before : List ℕ) → w.points ≡ later ++ before → (m a : ℕ) → flat s (history s before) m a ≡ flat s before m a)
+    × AllMatch s (history s w.points))
+
+-- where two identifiers are undecided at all their participants, the order of their points makes no difference
+abbrev pub OpenPointsTrade : Type 0
+OpenPointsTrade = AlwaysHolds (λ s w. (t u : ℕ) → IsFresh s t → IsFresh s u → ¬ (t ≡ u) → In t w.begun → In u w.begun
+    → ((m : ℕ) → In m (nodes_of s t) → IsOpen w.log m t) → ((m : ℕ) → In m (nodes_of s u) → IsOpen w.log m u)
+    → (points : List ℕ) (m a : ℕ) → flat s (t ∷ u ∷ points) m a ≡ flat s (u ∷ t ∷ points) m a)
 
 -- ---- reads and images
 

@@ -1,5 +1,5 @@
 //! Laws of the transaction protocol: each holds of every run of its rules.
-ghost use Rattle.tx_rules.specs.Laws.{FormattedOpens, DecisionsExclude, DecisionsStay, LoggedDecisionsAgree, ForgottenIsOver, PromisesAreKept, VotesCommit, RefusedNeverCommits, LocksAreApart, LocksStayApart, PointsAreTheCommitted, PointsMatch, HistoryIsFlat, ReadsAreFlat, LooksAreFlat, LooksHadTheirMoment, ImagesAreFlat, UnlockedIsFlat};
+ghost use Rattle.tx_rules.specs.Laws.{FormattedOpens, DecisionsExclude, DecisionsStay, LoggedDecisionsAgree, ForgottenIsOver, PromisesAreKept, VotesCommit, RefusedNeverCommits, LocksAreApart, LocksStayApart, PointsAreTheCommitted, PointsMatch, HistoryIsFlat, OpenPointsTrade, ReadsAreFlat, LooksAreFlat, LooksHadTheirMoment, ImagesAreFlat, UnlockedIsFlat};
 
 /// A formatted cluster opens.
 pub fn formatted_opens()
@@ -64,6 +64,11 @@ pub fn points_match()
 /// The points with a write item alone give the same flat memory.
 pub fn history_is_flat()
     ensures { HistoryIsFlat }
+{}
+
+/// The order of the points of undecided identifiers makes no difference.
+pub fn open_points_trade()
+    ensures { OpenPointsTrade }
 {}
 
 /// The bytes of a Granted vote are those of the flat memory just before the point.
