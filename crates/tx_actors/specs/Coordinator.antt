@@ -32,6 +32,7 @@ pub record Act : Type 0 where
   pub posts : List Message
   pub ends : List Outcome
 
+-- nothing but this state
 abbrev pub stays : Coordinator → Act
 stays c = record { now = c; posts = []; ends = [] }
 
@@ -80,9 +81,11 @@ hear_refused s c m t (Some r) = cond (takes s r m t) (ended s c r.id false (Fail
 abbrev pub noted : ℕ → ℕ → Finishing → Finishing
 noted m t f = cond (f.id == t) (record f { done = m ∷ f.done }) f
 
+-- whether all participants of a finishing identifier have sent `done`
 abbrev pub is_done : Setting → Finishing → Bool
 is_done s f = all_in (nodes_of s f.id) f.done
 
+-- `done` is heard: it is noted, and an identifier that is done is forgotten everywhere and no longer finishing
 abbrev pub hear_done : Setting → Coordinator → ℕ → ℕ → Act
 hear_done s c m t =
     record {
@@ -109,6 +112,7 @@ abbrev pub prepares : Option Running → List Message
 prepares None = []
 prepares (Some r) = Prepare r.id ∷ []
 
+-- what a coordinator posts again: the `prepare` of the running identifier, and each decision, oldest first
 abbrev pub resend : Coordinator → Act
 resend c = record (stays c) { posts = prepares c.running ++ map (λ f. decide f.commits f.id) c.finishing }
 

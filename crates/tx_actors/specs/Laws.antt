@@ -36,6 +36,7 @@ OutcomeStands s w (Committed t votes) =
     × ((m : ℕ) → In m (nodes_of s t) → In m (map (λ v. v.0) votes))
 OutcomeStands s w (Failed t) = In t w.begun × IsLive s t × (IsAborted s w.log t ⊎ IsReader s t)
 
+-- every outcome means what it says
 abbrev pub OutcomesStand : Type 0
 OutcomesStand = AlwaysReached (λ s st. (outcome : Outcome) → In outcome st.outcomes → OutcomeStands s st.world outcome)
 
@@ -73,6 +74,7 @@ ReactionsAreAllowed = AlwaysReached (λ s st. (m : ℕ) (held : Bool) (message :
 abbrev pub UndecidedIsOpen : Type 0
 UndecidedIsOpen = (log : List Entry) (m t : ℕ) → (is_undecided (own m log) t ≡ true) ↔ IsOpen log m t
 
+-- above the floor is what was not passed
 abbrev pub AboveIsNotPassed : Type 0
 AboveIsNotPassed = (s : Setting) (log : List Entry) (m t : ℕ) → (standing s (own m log) t ≡ Above) ↔ (¬ IsPassed s log m t)
 

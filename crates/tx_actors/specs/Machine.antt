@@ -22,6 +22,7 @@ event_of s w m (Commit t) = Commits m t
 event_of s w m (Abort t) = Aborts m t
 event_of s w m (Forget t) = Forgets m t
 
+-- the events in which a memory node appends records, oldest first
 abbrev pub appending : Setting → World → ℕ → List Record → List Event
 appending s w m [] = []
 appending s w m (r ∷ rs) = event_of s w m r ∷ appending s (after s w (event_of s w m r)) m rs
@@ -75,9 +76,11 @@ pub record Move : Type 0 where
   pub manager : List Work
   pub outcomes : List Outcome
 
+-- nothing happens
 abbrev pub idle : State → Move
 idle st = record { events = []; coordinator = st.coordinator; manager = st.manager; outcomes = st.outcomes }
 
+-- a memory node makes these events happen: it has no state beside its log
 abbrev pub node_moves : State → List Event → Move
 node_moves st events = record (idle st) { events = events }
 
@@ -85,17 +88,21 @@ node_moves st events = record (idle st) { events = events }
 abbrev pub with_coordinator : ℕ → Coordinator → (ℕ → Coordinator) → ℕ → Coordinator
 with_coordinator c now all d = cond (d == c) now (all d)
 
+-- a coordinator acts, after these events
 abbrev pub acts : State → ℕ → List Event → Act → Move
 acts st c events act =
     record (idle st) { events = events ++ map Posts act.posts; coordinator = with_coordinator c act.now st.coordinator; outcomes = act.ends ++ st.outcomes }
 
+-- the manager acts
 abbrev pub works : State → Deed → Move
 works st deed = record (idle st) { events = map Posts deed.posts; manager = deed.now }
 
+-- a memory node handles a posted message by what it has, and may stop when its records are durable
 abbrev pub to_node : Setting → State → ℕ → Bool → Bool → Option Message → Move
 to_node s st m held stops None = idle st
 to_node s st m held stops (Some p) = node_moves st (reacts s st.world m stops (handle s m held (view st.world m) p))
 
+-- the coordinator of the identifier that a vote or a `done` names hears it; it ignores all other messages
 abbrev pub to_coordinator : Setting → State → Option Message → Move
 to_coordinator s st (Some (Granted m t bytes)) =
     acts st (s.coord t) [] (hear_granted s (st.coordinator (s.coord t)) m t bytes (st.coordinator (s.coord t)).running)
@@ -106,13 +113,16 @@ to_coordinator s st (Some (Refused m t)) =
 to_coordinator s st (Some (Done m t)) = acts st (s.coord t) [] (hear_done s (st.coordinator (s.coord t)) m t)
 to_coordinator s st message = idle st
 
+-- the manager learns of a posted message
 abbrev pub to_manager : Setting → State → Option Message → Move
 to_manager s st None = idle st
 to_manager s st (Some p) = works st (learn s st.manager p)
 
+-- a coordinator begins an identifier where it may
 abbrev pub begins : Setting → State → ℕ → Coordinator → Move
 begins s st t c = cond (may_begin c t c.running) (acts st (s.coord t) (Begins t ∷ []) (begin c t)) (idle st)
 
+-- what each input makes happen
 abbrev pub move : Setting → State → Input → Move
 move s st (Begin t) = begins s st t (st.coordinator (s.coord t))
 move s st (ToNode k m held) = to_node s st m held false (numbered st.world.posted k)

@@ -21,6 +21,7 @@ pub record Deed : Type 0 where
 abbrev pub takes_up : List Work → ℕ → Bool
 takes_up work t = not (is_in t (map (λ x. x.id) work)) && nat_lt (length work) 64
 
+-- an identifier that is taken up: nothing is known of it yet
 abbrev pub begun_work : ℕ → Work
 begun_work t = record { id = t; oks = []; decision = None; done = [] }
 
@@ -35,12 +36,15 @@ learn_kept work (t ∷ ts) =
 abbrev pub ok_noted : Setting → ℕ → ℕ → Work → Work
 ok_noted s m t x = cond ((x.id == t) && is_none x.decision) (record x { oks = m ∷ x.oks }) x
 
+-- whether an undecided identifier has `answer ok` of all participants
 abbrev pub is_agreed : Setting → Work → Bool
 is_agreed s x = is_none x.decision && all_in (nodes_of s x.id) x.oks
 
+-- the decision is made where the test holds
 abbrev pub decided_as : Bool → (Work → Bool) → Work → Work
 decided_as commits test x = cond (test x) (record x { decision = Some commits }) x
 
+-- `answer ok`: it is noted, and an identifier that all participants agree to is committed
 abbrev pub learn_ok : Setting → List Work → ℕ → ℕ → Deed
 learn_ok s work m t =
     record {
@@ -52,6 +56,7 @@ learn_ok s work m t =
 abbrev pub is_denied : Setting → ℕ → ℕ → Work → Bool
 is_denied s m t x = (x.id == t) && (is_none x.decision && is_in m (nodes_of s x.id))
 
+-- `answer abort`: an undecided identifier is aborted
 abbrev pub learn_abort : Setting → List Work → ℕ → ℕ → Deed
 learn_abort s work m t =
     record { now = map (decided_as false (is_denied s m t)) work; posts = map (λ x. DecideAbort x.id) (filter (is_denied s m t) work) }
@@ -60,9 +65,11 @@ learn_abort s work m t =
 abbrev pub done_noted : ℕ → ℕ → Work → Work
 done_noted m t x = cond ((x.id == t) && is_some x.decision) (record x { done = m ∷ x.done }) x
 
+-- whether a decided identifier has `done` of all participants
 abbrev pub is_through : Setting → Work → Bool
 is_through s x = is_some x.decision && all_in (nodes_of s x.id) x.done
 
+-- `done`: it is noted, and an identifier that all participants are through with is forgotten everywhere
 abbrev pub learn_done : Setting → List Work → ℕ → ℕ → Deed
 learn_done s work m t =
     record {
@@ -83,5 +90,6 @@ abbrev pub again : Work → Option Bool → Message
 again x None = Ask x.id
 again x (Some commits) = decide commits x.id
 
+-- what the manager posts again, oldest identifier first
 abbrev pub resend_manager : List Work → List Message
 resend_manager work = map (λ x. again x x.decision) work

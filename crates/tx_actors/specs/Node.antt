@@ -12,18 +12,20 @@ abbrev pub own : ℕ → List Entry → List Record
 own m [] = []
 own m (At n r ∷ log) = cond (n == m) (r ∷ own m log) (own m log)
 
--- whether there is a grant of the identifier, a decision on it, or the record that it is forgotten
+-- whether there is a grant of the identifier
 abbrev pub has_grant : List Record → ℕ → Bool
 has_grant [] t = false
 has_grant (Grant u ∷ rs) t = (u == t) || has_grant rs t
 has_grant (r ∷ rs) t = has_grant rs t
 
+-- whether there is a decision on it
 abbrev pub has_decision : List Record → ℕ → Bool
 has_decision [] t = false
 has_decision (Commit u ∷ rs) t = (u == t) || has_decision rs t
 has_decision (Abort u ∷ rs) t = (u == t) || has_decision rs t
 has_decision (r ∷ rs) t = has_decision rs t
 
+-- whether there is the record that it is forgotten
 abbrev pub has_forget : List Record → ℕ → Bool
 has_forget [] t = false
 has_forget (Forget u ∷ rs) t = (u == t) || has_forget rs t
@@ -53,10 +55,12 @@ pub data Standing : Type 0 where
   Same : Bool → Standing
   Below : Standing
 
+-- where it stands to a floor that is there or not
 abbrev pub to_floor : ℕ → Option (ℕ × Bool) → Standing
 to_floor t None = Above
 to_floor t (Some floor) = cond (nat_lt floor.0 t) Above (cond (floor.0 == t) (Same floor.1) Below)
 
+-- where it stands to the floor of its coordinator
 abbrev pub standing : Setting → List Record → ℕ → Standing
 standing s rs t = to_floor t (floor_of s rs (s.coord t))
 
@@ -79,6 +83,7 @@ abbrev pub sorted_in : ℕ → List ℕ → List ℕ
 sorted_in n [] = n ∷ []
 sorted_in n (x ∷ xs) = cond (nat_lt x n) (x ∷ sorted_in n xs) (n ∷ x ∷ xs)
 
+-- a list in ascending order
 abbrev pub sorted : List ℕ → List ℕ
 sorted [] = []
 sorted (x ∷ xs) = sorted_in x (sorted xs)
@@ -101,6 +106,7 @@ pub record View : Type 0 where
   pub image : ℕ → ℕ
   pub seen : ℕ → ℕ → ℕ
 
+-- what a memory node has in a world
 abbrev pub view : World → ℕ → View
 view w m = record { records = own m w.log; image = w.image m; seen = λ t. w.seen t m }
 
@@ -109,9 +115,11 @@ pub record Reaction : Type 0 where
   pub appends : List Record
   pub posts : List Message
 
+-- it does nothing
 abbrev pub silent : Reaction
 silent = record { appends = []; posts = [] }
 
+-- it answers, and appends nothing
 abbrev pub answers : Message → Reaction
 answers message = record { appends = []; posts = message ∷ [] }
 
@@ -120,6 +128,7 @@ abbrev pub any_lock : Setting → ℕ → List Record → ℕ → List ℕ → B
 any_lock s m rs t [] = false
 any_lock s m rs t (u ∷ us) = (is_undecided rs u && overlap (cells_of s t m) (cells_of s u m)) || any_lock s m rs t us
 
+-- whether a lock is in the way of the identifier
 abbrev pub is_locked : Setting → ℕ → List Record → ℕ → Bool
 is_locked s m rs t = any_lock s m rs t (granted_in rs)
 
@@ -192,6 +201,7 @@ on_ask s m v t = cond (is_kept s v.records t) (answers (AnswerOk m t)) (answers_
 abbrev pub to_participant : Setting → ℕ → ℕ → Reaction → Reaction
 to_participant s m t reaction = cond (is_in m (nodes_of s t)) reaction silent
 
+-- what a memory node does with each message; it ignores those that are for others
 abbrev pub handle : Setting → ℕ → Bool → View → Message → Reaction
 handle s m held v (Prepare t) = to_participant s m t (on_prepare s m held v t)
 handle s m held v (DecideCommit t) = to_participant s m t (on_commit m v t)

@@ -14,5 +14,6 @@ abbrev pub IdentifiersAreOrdered : Type 0
 IdentifiersAreOrdered = (c b q d a p : ℕ) → b < 2 ^ 64 → q < 2 ^ 64 → a < 2 ^ 64 → p < 2 ^ 64
     → (identifier c b q < identifier d a p) ↔ ((c < d) ⊎ ((c ≡ d) × ((b < a) ⊎ ((b ≡ a) × (q < p)))))
 
+-- the coordinator of an identifier is the one that it was made of
 abbrev pub IdentifiersTellTheirCoordinator : Type 0
 IdentifiersTellTheirCoordinator = (c b q : ℕ) → b < 2 ^ 64 → q < 2 ^ 64 → coordinator_of (identifier c b q) ≡ c

@@ -21,6 +21,7 @@ sample_mini =
 abbrev pub sample_setting : Setting
 sample_setting = record { coord = λ t. t / 100; mini = λ t. sample_mini; old = []; found = []; early = []; start = λ m a. 0 }
 
+-- what happens
 abbrev pub sample_inputs : List Input
 sample_inputs =
     -- coordinator 0 begins identifier 1, memory node 0 grants it, and memory node 1 stops when its grant is durable
@@ -35,6 +36,7 @@ sample_inputs =
     -- the first message is delivered once more
     ∷ ToNode 0 1 false ∷ []
 
+-- where it leads, from a formatted cluster
 abbrev pub sample_state : State
 sample_state = steps sample_setting (opened_at sample_setting [] (λ m a. 0) (λ c. 100 * c)) sample_inputs
 

@@ -26,6 +26,7 @@ abbrev pub is_of : ℕ → Option Copy → Bool
 is_of c None = false
 is_of c (Some copy) = copy.cut == c
 
+-- whether a copy is held
 abbrev pub is_held : Option Copy → Bool
 is_held None = false
 is_held (Some copy) = copy.held
@@ -76,6 +77,7 @@ pub data Phase : Type 0 where
   Holding : List ℕ → Phase
   Reading : List ℕ → List ℕ → List (List ℕ) → Phase
 
+-- a running backup: its cut, and how far it is
 pub record Backup : Type 0 where
   pub cut : ℕ
   pub phase : Phase
@@ -91,6 +93,7 @@ pub record CutAct : Type 0 where
   pub events : List CutEvent
   pub ends : List Ending
 
+-- the manager does nothing
 abbrev pub keeps : Option Backup → CutAct
 keeps b = record { backup = b; events = []; ends = [] }
 
@@ -138,6 +141,7 @@ abbrev pub hear_no_cut : CutMessage → CutAct
 hear_no_cut (StillHeld m c) = record (keeps None) { events = Sends (Drop c) ∷ [] }
 hear_no_cut message = keeps None
 
+-- each message, with a running backup or without
 abbrev pub hears_cut : ℕ → List ℕ → Option Backup → CutMessage → CutAct
 hears_cut size ms None message = hear_no_cut message
 hears_cut size ms (Some b) message = hear_cut size ms b message
@@ -153,6 +157,7 @@ posts_again c (Holding oks) = Sends (Hold c) ∷ []
 posts_again c (Reading [] bytes images) = Sends (Release c) ∷ []
 posts_again c (Reading (m ∷ left) bytes images) = Sends (Release c) ∷ Sends (Read m c (length bytes)) ∷ []
 
+-- what the manager posts again of a running backup
 abbrev pub resends : Option Backup → CutAct
 resends None = keeps None
 resends (Some b) = record (keeps (Some b)) { events = posts_again b.cut b.phase }
@@ -215,6 +220,7 @@ handle_cut size k m (Some (Drop c)) = on_drop m c (k.copies m)
 handle_cut size k m (Some (Read n c place)) = cond (n == m) (on_read size m c place (k.copies m)) []
 handle_cut size k m message = []
 
+-- the same, where the memory node stops; what it has beside its log is lost
 abbrev pub handle_cut_stopping : Cuts → ℕ → Option CutMessage → List CutEvent
 handle_cut_stopping k m (Some (Hold c)) = on_hold_stopping k m c
 handle_cut_stopping k m message = Loses m ∷ []
@@ -228,9 +234,11 @@ manager_hears size ms b (Some message) = hears_cut size ms b message
 abbrev pub with_events : Setting → Whole → List CutEvent → Whole
 with_events s x events = record x { cuts = after_cuts s x.cuts events }
 
+-- what an act of the manager leads to
 abbrev pub with_act : Setting → Whole → CutAct → Whole
 with_act s x act = record x { cuts = after_cuts s x.cuts act.events; backup = act.backup; endings = act.ends ++ x.endings }
 
+-- what a move of the transactions leads to, and what is lost in it
 abbrev pub with_move : Setting → Whole → Move → List CutEvent → Whole
 with_move s x m lost =
     record x { cuts = after_cuts s x.cuts (map Does m.events ++ lost); coordinator = m.coordinator; manager = m.manager; outcomes = m.outcomes }
@@ -259,6 +267,7 @@ whole_step s size ms x GiveUpBackup = with_act s x (gives_up x.backup)
 whole_step s size ms x ResendBackup = with_act s x (resends x.backup)
 whole_step s size ms x BootBackup = with_act s x (keeps None)
 
+-- a list of inputs, oldest first
 abbrev pub whole_steps : Setting → ℕ → List ℕ → Whole → List WholeInput → Whole
 whole_steps s size ms x [] = x
 whole_steps s size ms x (input ∷ inputs) = whole_steps s size ms (whole_step s size ms x input) inputs

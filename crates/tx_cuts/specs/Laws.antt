@@ -79,6 +79,7 @@ IsElsewhere m (Aborts n t) = ¬ (n ≡ m)
 IsElsewhere m (Forgets n t) = ¬ (n ≡ m)
 IsElsewhere m e = ⊤
 
+-- events that append nothing to the log of the memory node
 abbrev pub AllElsewhere : ℕ → List Event → Type 0
 AllElsewhere m [] = ⊤
 AllElsewhere m (e ∷ events) = IsElsewhere m e × AllElsewhere m events

@@ -6,6 +6,7 @@ use Rattle.tx_actors.specs.Machine.{Begin, ToNode, ToCoordinator}
 use Rattle.tx_actors.specs.Sample.{sample_setting}
 use Rattle.tx_cuts.specs.Backup.{BackedUp, Whole, WholeInput, Acts, CutToNode, CutToManager, BeginBackup, whole_steps, opened_whole}
 
+-- what happens
 abbrev pub backup_inputs : List WholeInput
 backup_inputs =
     -- identifier 1 is committed, and both memory nodes apply its writes
@@ -17,6 +18,7 @@ backup_inputs =
     -- the holds are released, and the pieces are read
     ∷ CutToNode 3 0 ∷ CutToNode 3 1 ∷ CutToNode 4 0 ∷ CutToManager 5 ∷ CutToNode 6 1 ∷ CutToManager 7 ∷ []
 
+-- where it leads, from a formatted cluster
 abbrev pub backup_whole : Whole
 backup_whole = whole_steps sample_setting 8 (0 ∷ 1 ∷ []) (opened_whole sample_setting [] (λ m a. 0) [] (λ c. 100 * c) 1) backup_inputs
 

@@ -1,10 +1,10 @@
 -- The laws.
-use Rattle.std.proofs.Common.{◌≡◌, ℕ, Bool, true, false, cond, List, [], ◌∷◌, ◌++◌, map, Option, Some, None, unwrap_or, ◌⊎◌, inl, inr, refl, sym, ap, ◌∙◌, subst}
+use Rattle.std.proofs.Common.{◌≡◌, ℕ, Bool, true, false, cond, List, [], ◌∷◌, ◌++◌, map, Option, Some, None, unwrap_or, ◌⊎◌, inl, inr, refl, sym, ap, ◌∙◌, subst, arith}
 use Rattle.std.proofs.lemmas.Bool.{cases_eq}
 use Rattle.tx_rules.specs.Mini.{In, Setting, nodes_of, cells_of, IsFresh, AreApart, flat}
 use Rattle.tx_rules.specs.Decision.{Grant, Commit, Abort, Forget, IsOpen}
 use Rattle.tx_rules.specs.World.{Message, Granted, Looked, Refused, World, opened, Event, Begins, Grants, Completes, Refuses, Commits, Aborts, Forgets, Posts, May, after, IsRun, after_all}
-use Rattle.tx_rules.specs.Laws.{DecisionsExclude, DecisionsStay, LoggedDecisionsAgree, ForgottenIsOver, PromisesAreKept, VotesCommit, RefusedNeverCommits, LocksAreApart, LocksStayApart, PointsAreTheCommitted, AllMatch, PointsMatch, history, HistoryIsFlat, OpenPointsTrade, ReadsAreFlat, LooksAreFlat, LooksHadTheirMoment, ImagesAreFlat, UnlockedIsFlat, IsPoint}
+use Rattle.tx_rules.specs.Laws.{BeginningsAreNew, DecisionsExclude, DecisionsStay, LoggedDecisionsAgree, ForgottenIsOver, PromisesAreKept, VotesCommit, RefusedNeverCommits, LocksAreApart, LocksStayApart, PointsAreTheCommitted, AllMatch, PointsMatch, history, HistoryIsFlat, OpenPointsTrade, ReadsAreFlat, LooksAreFlat, LooksHadTheirMoment, ImagesAreFlat, UnlockedIsFlat, IsPoint}
 use Rattle.tx_rules.proofs.GrowthLemmas.{committed_grows, aborted_grows, over_grows, decided_grows}
 use Rattle.tx_rules.proofs.FaithfulLemmas.{not_both, in_back}
 use Rattle.tx_rules.proofs.StoredLemmas.{AreRead, pending_touched}
@@ -229,6 +229,12 @@ run_first : (s : Setting) (w : World) (first : List Event) (e : Event) (rest : L
     → IsRun s w first × May s (after_all s w first) e
 run_first s w [] e rest run = (tt, run.0)
 run_first s w (x ∷ first) e rest run = let it = run_first s (after s w x) first e rest run.1 in ((run.0, it.0), it.1)
+
+pub beginnings_are_new : BeginningsAreNew
+beginnings_are_new s w events run first rest t split h =
+    let it = run_first s w first (Begins t) rest (subst (IsRun s w) split run) in
+    let below = it.1.0 t h refl in
+    omega (arith, below)
 
 pub looks_had_their_moment : LooksHadTheirMoment
 looks_had_their_moment s log image o events run m t bytes posted = elim (posted_when s (opened s log image) events (Looked m t bytes) posted) [

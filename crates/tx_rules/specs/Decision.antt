@@ -15,16 +15,13 @@ pub data Record : Type 0 where
 pub data Entry : Type 0 where
   At : ℕ → Record → Entry
 
--- the identifier that an entry names
+-- the identifier that a record names
 abbrev pub named_in : Record → ℕ
 named_in (Grant t) = t
 named_in (Refuse t) = t
 named_in (Commit t) = t
 named_in (Abort t) = t
 named_in (Forget t) = t
-
-abbrev pub named_by : Entry → ℕ
-named_by (At m r) = named_in r
 
 -- the memory node has a Granted vote for the identifier in its log
 abbrev pub IsGranted : List Entry → ℕ → ℕ → Type 0

@@ -2,7 +2,7 @@
 use Rattle.std.specs.Prelude.{◌≡◌, ℕ, List, [], ◌∷◌, ◌++◌, filter, ◌↔◌, ⊤}
 use Rattle.tx_rules.specs.Mini.{In, Memory, Setting, nodes_of, cells_of, IsLive, IsFresh, reads_of, Matches, AreApart, flat}
 use Rattle.tx_rules.specs.Decision.{Entry, At, Commit, Abort, Forget, IsOpen, IsCommitted, IsAborted, IsOver}
-use Rattle.tx_rules.specs.World.{Message, Granted, Looked, Refused, World, opened, IsOutdated, Promises, Event, Posts, May, IsRun, after_all}
+use Rattle.tx_rules.specs.World.{Message, Granted, Looked, Refused, World, opened, IsOutdated, Promises, Event, Begins, Posts, May, IsRun, after_all}
 use Rattle.tx_rules.specs.Opening.{IsPending, IsOpening, IsFormatted}
 
 -- it holds at every moment of every run of every opening
@@ -13,6 +13,11 @@ AlwaysHolds P = (s : Setting) (log : List Entry) (image : Memory) → IsOpening 
 -- a cluster that is formatted opens
 abbrev pub FormattedOpens : Type 0
 FormattedOpens = (s : Setting) → IsFormatted s → IsOpening s [] s.start
+
+-- an identifier begins once: where one begins in a run, it was not begun before
+abbrev pub BeginningsAreNew : Type 0
+BeginningsAreNew = (s : Setting) (w : World) (events : List Event) → IsRun s w events → (first rest : List Event) (t : ℕ)
+    → events ≡ first ++ Begins t ∷ rest → ¬ In t (after_all s w first).begun
 
 -- ---- decisions
 
@@ -86,6 +91,7 @@ abbrev pub AllMatch : Setting → List ℕ → Type 0
 AllMatch s [] = ⊤
 AllMatch s (t ∷ points) = ((m : ℕ) → In m (nodes_of s t) → Matches s t m (flat s points m)) × AllMatch s points
 
+-- every minitransaction matches the memory that it is applied to
 abbrev pub PointsMatch : Type 0
 PointsMatch = AlwaysHolds (λ s w. AllMatch s w.points)
 

@@ -50,10 +50,11 @@ pub record Setting : Type 0 where
   pub early : List ℕ
   pub start : Memory
 
--- the participants of an identifier, and the cells that it touches at a memory node
+-- the participants of an identifier
 abbrev pub nodes_of : Setting → ℕ → List ℕ
 nodes_of s t = (s.mini t).nodes
 
+-- the cells that an identifier touches at a memory node
 abbrev pub cells_of : Setting → ℕ → ℕ → List ℕ
 cells_of s t m = (s.mini t).cells m
 

@@ -1,9 +1,14 @@
 //! Laws of the transaction protocol: each holds of every run of its rules.
-ghost use Rattle.tx_rules.specs.Laws.{FormattedOpens, DecisionsExclude, DecisionsStay, LoggedDecisionsAgree, ForgottenIsOver, PromisesAreKept, VotesCommit, RefusedNeverCommits, LocksAreApart, LocksStayApart, PointsAreTheCommitted, PointsMatch, HistoryIsFlat, OpenPointsTrade, ReadsAreFlat, LooksAreFlat, LooksHadTheirMoment, ImagesAreFlat, UnlockedIsFlat};
+ghost use Rattle.tx_rules.specs.Laws.{FormattedOpens, BeginningsAreNew, DecisionsExclude, DecisionsStay, LoggedDecisionsAgree, ForgottenIsOver, PromisesAreKept, VotesCommit, RefusedNeverCommits, LocksAreApart, LocksStayApart, PointsAreTheCommitted, PointsMatch, HistoryIsFlat, OpenPointsTrade, ReadsAreFlat, LooksAreFlat, LooksHadTheirMoment, ImagesAreFlat, UnlockedIsFlat};
 
 /// A formatted cluster opens.
 pub fn formatted_opens()
     ensures { FormattedOpens }
+{}
+
+/// An identifier begins once.
+pub fn beginnings_are_new()
+    ensures { BeginningsAreNew }
 {}
 
 /// Committed and aborted exclude each other.

@@ -9,8 +9,8 @@
 mod laws;
 
 pub use laws::{
-    decisions_exclude, decisions_stay, forgotten_is_over, formatted_opens, history_is_flat,
-    images_are_flat, locks_are_apart, locks_stay_apart, logged_decisions_agree, looks_are_flat,
-    open_points_trade, points_are_the_committed, points_match, promises_are_kept, reads_are_flat,
-    refused_never_commits, unlocked_is_flat, votes_commit,
+    beginnings_are_new, decisions_exclude, decisions_stay, forgotten_is_over, formatted_opens,
+    history_is_flat, images_are_flat, locks_are_apart, locks_stay_apart, logged_decisions_agree,
+    looks_are_flat, open_points_trade, points_are_the_committed, points_match, promises_are_kept,
+    reads_are_flat, refused_never_commits, unlocked_is_flat, votes_commit,
 };
