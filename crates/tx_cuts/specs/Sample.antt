@@ -1,0 +1,29 @@
+-- A backup as an example: two memory nodes with images of eight bytes, after one minitransaction, and with another
+-- one that is refused while the cut is held.
+use Rattle.std.specs.Prelude.{◌≡◌, ◌*◌, false, List, [], ◌∷◌}
+use Rattle.tx_actors.specs.Coordinator.{Failed, Committed}
+use Rattle.tx_actors.specs.Machine.{Begin, ToNode, ToCoordinator}
+use Rattle.tx_actors.specs.Sample.{sample_setting}
+use Rattle.tx_cuts.specs.Backup.{BackedUp, Whole, WholeInput, Acts, CutToNode, CutToManager, BeginBackup, whole_steps, opened_whole}
+
+-- what happens
+abbrev pub backup_inputs : List WholeInput
+backup_inputs =
+    -- identifier 1 is committed, and both memory nodes apply its writes
+    Acts (Begin 1) ∷ Acts (ToNode 0 0 false) ∷ Acts (ToNode 0 1 false) ∷ Acts (ToCoordinator 1) ∷ Acts (ToCoordinator 2)
+    ∷ Acts (ToNode 3 0 false) ∷ Acts (ToNode 3 1 false)
+    -- both memory nodes hold cut 1; identifier 2 is refused meanwhile; and the cut is made
+    ∷ BeginBackup 1 ∷ CutToNode 0 0 ∷ CutToNode 0 1 ∷ Acts (Begin 2) ∷ Acts (ToNode 6 0 false) ∷ Acts (ToCoordinator 7)
+    ∷ CutToManager 1 ∷ CutToManager 2
+    -- the holds are released, and the pieces are read
+    ∷ CutToNode 3 0 ∷ CutToNode 3 1 ∷ CutToNode 4 0 ∷ CutToManager 5 ∷ CutToNode 6 1 ∷ CutToManager 7 ∷ []
+
+-- where it leads, from a formatted cluster
+abbrev pub backup_whole : Whole
+backup_whole = whole_steps sample_setting 8 (0 ∷ 1 ∷ []) (opened_whole sample_setting [] (λ m a. 0) [] (λ c. 100 * c) 1) backup_inputs
+
+-- the cut is made at the one point, and the backup has both images with the writes of identifier 1
+pub record BackupEndsWell : Type 0 where
+  pub made : backup_whole.cuts.made ≡ (1, 1 ∷ []) ∷ []
+  pub endings : backup_whole.endings ≡ BackedUp 1 ((0 ∷ 0 ∷ 0 ∷ 0 ∷ 0 ∷ 42 ∷ 0 ∷ 0 ∷ []) ∷ (0 ∷ 0 ∷ 0 ∷ 0 ∷ 0 ∷ 0 ∷ 0 ∷ 43 ∷ []) ∷ []) ∷ []
+  pub outcomes : backup_whole.outcomes ≡ Failed 2 ∷ Committed 1 ((1, []) ∷ (0, []) ∷ []) ∷ []
