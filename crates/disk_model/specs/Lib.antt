@@ -1,0 +1,4 @@
+pub mod Cause
+pub mod Crash
+pub mod Frames
+pub mod Stop

@@ -1,0 +1,19 @@
+//! What a disk is, what a crash may leave of it, and disks in memory.
+//!
+//! [`Disk`] is the trait that all else is proved against. Its contract speaks of a history of moments,
+//! each with the byte at every place and the ranges that were written since the last sync; a crash may
+//! leave any bytes in those ranges, and the bytes that are there elsewhere (`specs/Crash.antt`). A
+//! caller owes that each range ends below 2^64.
+//!
+//! [`Stop`] lets a stated number of writes and syncs pass and then fails until a restart.
+#![tactic(auto)]
+
+mod choice;
+mod disk;
+mod frame;
+mod frames;
+mod stop;
+
+pub use choice::Choice;
+pub use disk::Disk;
+pub use stop::Stop;
