@@ -8,12 +8,23 @@
 //! [`Stop`] lets a stated number of writes and syncs pass and then fails until a restart.
 #![tactic(auto)]
 
+mod change;
 mod choice;
 mod disk;
 mod frame;
 mod frames;
+mod overwritten;
+mod plan_disk;
 mod stop;
+mod store;
 
+pub use change::Change;
 pub use choice::Choice;
 pub use disk::Disk;
+use sfs_base::Seq;
+pub use sfs_base::{Bytes, Failed, NoMemory};
+pub use plan_disk::PlanDisk;
 pub use stop::Stop;
+
+/// The numbers of the calls that fail, in any order; the first call has the number 1.
+pub type Calls = Seq<u64>;
