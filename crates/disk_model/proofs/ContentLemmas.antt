@@ -50,15 +50,15 @@ put_append content at front back place =
           ∙ sym (get_or-append_right front back (length front) (place - at) 0 refl (omega arith))
           ∙ sym (put_in content at (front ++ back) place (omega arith) (omega (arith, len)))
       | inr out_back ↦ put_out (put content at front) (at + length front) back place out_back ∙ elim (cases_covers at (length front) place) [
-          | inl in_front ↦
-              put_in content at front place in_front.0 in_front.1
-              ∙ sym (get_or_append_left front back 0 (place - at) (omega arith))
-              ∙ sym (put_in content at (front ++ back) place in_front.0 (omega (arith, len)))
-          | inr out_front ↦ put_out content at front place out_front ∙ sym (put_out content at (front ++ back) place (elim out_front [
-              | inl low ↦ inl low
-              | inr high ↦ elim out_back [ inl between ↦ absurd (omega arith) | inr behind ↦ inr (omega (arith, len)) ]
-            ]))
-        ]
+        | inl in_front ↦
+            put_in content at front place in_front.0 in_front.1
+            ∙ sym (get_or_append_left front back 0 (place - at) (omega arith))
+            ∙ sym (put_in content at (front ++ back) place in_front.0 (omega (arith, len)))
+        | inr out_front ↦ put_out content at front place out_front ∙ sym (put_out content at (front ++ back) place (elim out_front [
+          | inl low ↦ inl low
+          | inr high ↦ elim out_back [ inl between ↦ absurd (omega arith) | inr behind ↦ inr (omega (arith, len)) ]
+        ]))
+      ]
     ]
 
 -- the bytes that stood there, put back

@@ -48,7 +48,7 @@ module _ (content : Content) (os : List Overwritten) (course : Course) (kept : I
     synced = λ place.
         undone_more next os o place
         ∙ undone_alike (put next o.at o.bytes.items) content os (λ p.
-            ap (λ (a : ℕ). put next a o.bytes.items p) there ∙ put_alike next (put content at bytes) at o.bytes.items wrote p ∙ put_back content at bytes o.bytes.items holds same p) place
+        ap (λ (a : ℕ). put next a o.bytes.items p) there ∙ put_alike next (put content at bytes) at o.bytes.items wrote p ∙ put_back content at bytes o.bytes.items holds same p) place
         ∙ kept.synced place;
     pending = λ place.
         pending_more os o place ∙ ap (λ b. covers o.at (length o.bytes.items) place || b) (kept.pending place)
@@ -63,7 +63,7 @@ module _ (content : Content) (os : List Overwritten) (course : Course) (kept : I
     synced = λ place.
         undone_more content os o place
         ∙ undone_alike (put content o.at o.bytes.items) content os (λ p.
-            ap (λ (a : ℕ). put content a o.bytes.items p) there ∙ put_same content at o.bytes.items holds p) place
+        ap (λ (a : ℕ). put content a o.bytes.items p) there ∙ put_same content at o.bytes.items holds p) place
         ∙ kept.synced place;
     pending = λ place.
         pending_more os o place ∙ ap (λ b. covers o.at (length o.bytes.items) place || b) (kept.pending place)
@@ -91,17 +91,17 @@ pub filled_more : (content next : Content) (os : List Overwritten) (o : Overwrit
 filled_more content next os o bytes byte same all wrote place =
     ap (λ x. cond (is_pending (ranges_of os) place) byte x) (wrote place)
     ∙ elim (cases_covers o.at (length bytes) place) [
-        | inl inside ↦
-            ap (λ x. cond (is_pending (ranges_of os) place) byte x) (put_in content o.at bytes place inside.0 inside.1 ∙ all (place - o.at) (omega arith))
-            ∙ both (is_pending (ranges_of os) place) byte
-            ∙ sym (ap (λ b. cond b byte (content place)) (pending_more os o place ∙ ap (λ b. b || is_pending (ranges_of os) place) (covered o.at (length o.bytes.items) place inside.0 (omega arith))))
-        | inr outside ↦
-            ap (λ x. cond (is_pending (ranges_of os) place) byte x) (put_out content o.at bytes place outside)
-            ∙ sym (ap (λ b. cond b byte (content place)) (pending_more os o place ∙ ap (λ b. b || is_pending (ranges_of os) place) (covered_not o.at (length o.bytes.items) place (elim outside [
-                | inl low ↦ inl low
-                | inr high ↦ inr (omega arith)
-              ]))))
-      ]
+      | inl inside ↦
+          ap (λ x. cond (is_pending (ranges_of os) place) byte x) (put_in content o.at bytes place inside.0 inside.1 ∙ all (place - o.at) (omega arith))
+          ∙ both (is_pending (ranges_of os) place) byte
+          ∙ sym (ap (λ b. cond b byte (content place)) (pending_more os o place ∙ ap (λ b. b || is_pending (ranges_of os) place) (covered o.at (length o.bytes.items) place inside.0 (omega arith))))
+      | inr outside ↦
+          ap (λ x. cond (is_pending (ranges_of os) place) byte x) (put_out content o.at bytes place outside)
+          ∙ sym (ap (λ b. cond b byte (content place)) (pending_more os o place ∙ ap (λ b. b || is_pending (ranges_of os) place) (covered_not o.at (length o.bytes.items) place (elim outside [
+            | inl low ↦ inl low
+            | inr high ↦ inr (omega arith)
+          ]))))
+    ]
   where
     both : (b : Bool) (x : ℕ) → cond b x x ≡ x
     both true x = refl

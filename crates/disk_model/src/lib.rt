@@ -15,15 +15,19 @@ mod frame;
 mod frames;
 mod overwritten;
 mod plan_disk;
+mod plan_shelf;
+mod shelf;
 mod stop;
 mod store;
 
 pub use change::Change;
 pub use choice::Choice;
 pub use disk::Disk;
+pub use plan_disk::PlanDisk;
+pub use plan_shelf::PlanShelf;
 use sfs_base::Seq;
 pub use sfs_base::{Bytes, Failed, NoMemory};
-pub use plan_disk::PlanDisk;
+pub use shelf::Shelf;
 pub use stop::Stop;
 
 /// The numbers of the calls that fail, in any order; the first call has the number 1.

@@ -115,11 +115,7 @@ impl Store {
 }
 
 /// Makes the content the image that `choice` names, with nothing pending.
-fn take(
-    frames: &mut Frames,
-    pending: &mut Vec<Overwritten>,
-    choice: Choice,
-) -> Result<(), NoMemory>
+fn take(frames: &mut Frames, pending: &mut Vec<Overwritten>, choice: Choice) -> Result<(), NoMemory>
     ensures content { OnOk result ((place : ℕ) → bytes_of frames.new place ≡ taken choice (bytes_of frames.old) pending.old.items place) }
     ensures none { OnOk result (pending.new.items ≡ []) }
 {

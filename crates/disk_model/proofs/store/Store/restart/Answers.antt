@@ -8,5 +8,5 @@ pub returns-clause-stands : goal.returns-clause-stands
 returns-clause-stands c kept =
     rw (c.in_ok-take.ensures.none, c.in_ok-push.ensures.items, course_more blank c.args.self.now.changes.items _)
     (kept_restart (bytes_of c.args.self.now.frames) c.args.self.now.pending.items (course_of c.args.self.now.changes.items) kept
-      c.args.choice (bytes_of c.take.new.frames) (λ place. c.in_ok-take.ensures.content place
-        ∙ taken_is (bytes_of c.args.self.now.frames) c.args.self.now.pending.items (course_of c.args.self.now.changes.items) kept c.args.choice place))
+    c.args.choice (bytes_of c.take.new.frames) (λ place. c.in_ok-take.ensures.content place
+    ∙ taken_is (bytes_of c.args.self.now.frames) c.args.self.now.pending.items (course_of c.args.self.now.changes.items) kept c.args.choice place))

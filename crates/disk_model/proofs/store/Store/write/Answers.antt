@@ -7,4 +7,4 @@ pub returns-clause-stands : goal.returns-clause-stands
 returns-clause-stands c kept =
     rw (c.in_ok-push.ensures.items, c.in_ok-push-2.ensures.items, course_more blank c.args.self.now.changes.items _)
     (rw c.in_ok-bytes.ensures (kept_write (bytes_of c.args.self.now.frames) c.args.self.now.pending.items (course_of c.args.self.now.changes.items) kept
-      (bytes_of c.write.new.self) c.in_ok-old.old c.args.at c.args.from.now c.in_ok-old.ensures.at c.in_ok-old.ensures.len c.in_ok-old.ensures.bytes c.in_ok-write.ensures))
+    (bytes_of c.write.new.self) c.in_ok-old.old c.args.at c.args.from.now c.in_ok-old.ensures.at c.in_ok-old.ensures.len c.in_ok-old.ensures.bytes c.in_ok-write.ensures))
