@@ -1,2 +1,4 @@
 pub mod MomentLemmas
 pub mod BootLemmas
+pub mod LogLemmas
+pub mod ScanLemmas
