@@ -19,14 +19,19 @@ pub record StandsFor (content : Content) (base : ℕ) (entries : List (List ℕ)
   pub closed : content (base + length (log_bytes entries)) ≢ 1
   pub within : length (log_bytes entries) < 2 ^ 32
 
--- behind these entries stands a gate of 1 whose entry ends so far that the gate behind it would lie at 2^32
--- bytes from the start or past them; where the length itself lies past them it is not looked at
+-- a gate of 1, this far from the start, whose entry ends so far that the gate behind it would lie at 2^32 bytes
+-- from the start or past them; where the length itself lies past them it is not looked at
+pub record IsBadGate (content : Content) (gate distance : ℕ) : Type 0 where
+  pub opened : content gate ≡ 1
+  pub size : ℕ
+  pub fits : size < 2 ^ 32
+  pub spelled : distance + 5 ≤ 2 ^ 32 → Holds content (gate + 1) (word size)
+  pub past : 2 ^ 32 ≤ distance + 5 + size
+
+-- such a gate stands behind some entries, at this place
 pub record IsDamaged (content : Content) (base at : ℕ) : Type 0 where
   pub entries : List (List ℕ)
   pub bytes : Holds content base (log_bytes entries)
   pub there : at ≡ base + length (log_bytes entries)
-  pub gate : content at ≡ 1
-  pub size : ℕ
-  pub fits : size < 2 ^ 32
-  pub spelled : length (log_bytes entries) + 5 ≤ 2 ^ 32 → Holds content (at + 1) (word size)
-  pub past : 2 ^ 32 ≤ length (log_bytes entries) + 5 + size
+  pub within : length (log_bytes entries) < 2 ^ 32
+  pub bad : IsBadGate content at (length (log_bytes entries))

@@ -32,3 +32,6 @@ pub use stop::Stop;
 
 /// The numbers of the calls that fail, in any order; the first call has the number 1.
 pub type Calls = Seq<u64>;
+
+/// The entries of a log, in order.
+pub type Entries = Seq<Bytes>;

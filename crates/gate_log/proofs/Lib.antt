@@ -2,3 +2,4 @@ pub mod MomentLemmas
 pub mod BootLemmas
 pub mod LogLemmas
 pub mod ScanLemmas
+pub mod LawLemmas

@@ -8,7 +8,7 @@ use Rattle.disk_model.specs.Crash.{Content, Snapshot, MayLeave, History, put, to
 use Rattle.disk_model.specs.LogBytes.{entry_bytes, log_bytes, StandsFor}
 use Rattle.disk_model.proofs.ContentLemmas.{put_out, put_holds}
 use Rattle.gate_log.specs.Entries.{IsBeforeOrAfter, Opens, sealed}
-use Rattle.gate_log.proofs.MomentLemmas.{outside_one, same_moments, weaker_moments, join_moments}
+use Rattle.gate_log.proofs.MomentLemmas.{outside_one, weaker_moments, join_moments}
 
 -- ---- bytes that are held
 
@@ -188,15 +188,3 @@ module _ (before now : History) (base end : ℕ) (entries : List (List ℕ)) (en
 pub not_err : {X E : Type 0} (P : Type 0) (r : Result X E) → is_err r ≡ false → OnOk r P → P
 not_err P (Ok x) none holds = holds
 not_err P (Err e) none holds = absurd cc
-
--- where nothing is pending, a crash leaves the entries that stand there
-pub stands_anyhow : (before : Snapshot) (base : ℕ) (entries : List (List ℕ)) → before.pending ≡ [] → StandsFor before.content base entries
-    → (image : Content) → MayLeave before image → StandsFor image base entries
-stands_anyhow before base entries none stands image left =
-    stands_alike before.content image base entries (λ i below. left.same (base + i) (ap (λ (p : List (ℕ × ℕ)). is_pending p (base + i)) none)) stands
-
--- a call that left the history as it was
-pub same_leaves : (before now : History) (base : ℕ) (entries : List (List ℕ)) → now ≡ before → before.now.pending ≡ [] → StandsFor before.now.content base entries
-    → LeavesOnly before now (λ image. StandsFor image base entries)
-same_leaves before now base entries same none stands =
-    same_moments (λ image. StandsFor image base entries) before now same (stands_anyhow before.now base entries none stands)

@@ -44,11 +44,12 @@ read_all content base distance entries so_far closed within = record {
 }
 
 -- a damaged gate
-pub read_damaged : (content : Content) (base distance at : ℕ) (entries : List (List ℕ)) → IsRead content base distance entries → at ≡ base + distance → IsBadGate content at distance
-    → IsDamaged content base at
-read_damaged content base distance at entries so_far there bad = record {
+pub read_damaged : (content : Content) (base distance at : ℕ) (entries : List (List ℕ)) → IsRead content base distance entries → distance < 2 ^ 32 → at ≡ base + distance
+    → IsBadGate content at distance → IsDamaged content base at
+read_damaged content base distance at entries so_far below there bad = record {
   entries = entries;
   bytes = so_far.bytes;
   there = there ∙ ap (λ (n : ℕ). base + n) so_far.ends;
+  within = omega (arith, so_far.ends);
   bad = subst (IsBadGate content at) so_far.ends bad;
 }

@@ -4,6 +4,7 @@
 mod boot_cell;
 mod boot_fault;
 mod extent;
+mod laws;
 mod layout;
 mod log;
 mod log_fault;
@@ -12,6 +13,7 @@ mod through;
 
 pub use boot_cell::BootCell;
 pub use boot_fault::BootFault;
+pub use laws::{damaged_logs_have_none, disks_have_one_boot, logs_have_one_list};
 pub use layout::MAX_LOG_BYTES;
 pub use log::Log;
 pub use log_fault::LogFault;

@@ -1,4 +1,4 @@
-ghost use Rattle.std.specs.Prelude.{◌≡◌, ◌⊎◌, ◌↔◌, ◌+◌, ◌^◌, ◌<◌, ◌≤◌, ℕ, true, false, [], ◌∷◌, ◌++◌, List, length, IfOk, IfErr, OnOk, OnErr, IsErrOf};
+ghost use Rattle.std.specs.Prelude.{◌≡◌, ◌⊎◌, ◌↔◌, ◌+◌, ◌^◌, ◌<◌, ◌≤◌, ℕ, true, false, [], ◌∷◌, ◌++◌, List, length, Some, IsTrue, IfOk, IfErr, OnOk, OnErr, IsErrOf};
 ghost use Rattle.disk_model.specs.Crash.{LeavesOnly, put, settled};
 ghost use Rattle.disk_model.specs.Cause.{FailedFor, IsCounted};
 ghost use Rattle.disk_model.specs.LogBytes.{StandsFor, IsDamaged};
@@ -9,7 +9,7 @@ use crate::layout::{HEADER_BYTES, OPEN, is_full, seal};
 use crate::log_fault::LogFault;
 use crate::scan::scan;
 use crate::through::write_through;
-use disk_model::{Disk, Entries};
+use disk_model::{Disk, Entries, Stop};
 use sfs_base::Failed;
 use std::alloc::Global;
 
@@ -123,6 +123,29 @@ impl<D: Disk> Log<D> {
             end: end + HEADER_BYTES + length,
         };
         Ok(())
+    }
+}
+
+impl<D: Disk> Log<Stop<D>> {
+    ghost use Rattle.gate_log.specs.Log.{disk_of};
+    ghost use Rattle.disk_model.specs.Stop.{disk_of as stopped_disk_of, left_of};
+
+    /// From now on this many writes and syncs pass to the disk below, or all of them. It takes no memory.
+    pub fn stop_after(&mut self, calls: Option<u32>)
+        requires { left_of (disk_of self.old) ≡ Some 0 → ⊥ }
+        ensures left { left_of (disk_of self.new) ≡ calls }
+        ensures disk { stopped_disk_of (disk_of self.new) ≡ stopped_disk_of (disk_of self.old) }
+        ensures log { self.new ≡ record self.old { disk = disk_of self.new } }
+    {
+        self.disk.stop_after(calls);
+    }
+
+    /// Whether the stated number of writes and syncs has returned, so that calls are refused until the
+    /// disk is restarted. It takes no memory.
+    pub fn stopped(&self) -> bool
+        ensures { IsTrue result ↔ (left_of (disk_of self.now) ≡ Some 0) }
+    {
+        self.disk.stopped()
     }
 }
 
