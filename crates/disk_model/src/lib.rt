@@ -35,3 +35,6 @@ pub type Calls = Seq<u64>;
 
 /// The entries of a log, in order.
 pub type Entries = Seq<Bytes>;
+
+#[cfg(test)]
+mod tests;
