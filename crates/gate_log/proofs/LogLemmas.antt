@@ -73,13 +73,6 @@ stands_alike content image base entries alike stands = record {
   within = stands.within;
 }
 
--- the parts of what is written behind the gate
-pub sealed_parts : (entry : List ℕ) → sealed entry ≡ (word (length entry) ++ entry) ++ 0 ∷ []
-sealed_parts entry = refl
-
-pub length-sealed : (entry : List ℕ) → length (sealed entry) ≡ 5 + length entry
-length-sealed entry = omega (arith, length-append (word (length entry) ++ entry) (0 ∷ []), length-entry_bytes entry)
-
 -- with the gate open, and what was written behind it, there is one entry more
 pub stands_more : (content image : Content) (base : ℕ) (entries : List (List ℕ)) (entry : List ℕ) → StandsFor content base entries
     → length (log_bytes entries) + 5 + length entry < 2 ^ 32 → ((i : ℕ) → i < length (log_bytes entries) → image (base + i) ≡ content (base + i))

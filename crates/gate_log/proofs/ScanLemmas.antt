@@ -22,9 +22,6 @@ pub record IsRead (content : Content) (base distance : ℕ) (entries : List (Lis
   pub bytes : Holds content base (log_bytes entries)
   pub ends : distance ≡ length (log_bytes entries)
 
-pub read_none : (content : Content) (base : ℕ) → IsRead content base 0 []
-read_none content base = record { bytes = record { each = λ i below. absurd (omega arith) }; ends = refl }
-
 -- one entry more
 pub read_more : (content : Content) (base distance : ℕ) (entries : List (List ℕ)) (entry : List ℕ) → IsRead content base distance entries
     → Holds content (base + distance) (entry_bytes entry) → IsRead content base (distance + 5 + length entry) (entries ++ entry ∷ [])
@@ -32,24 +29,4 @@ read_more content base distance entries entry so_far next = record {
   bytes = subst (Holds content base) (sym (log_bytes_more entries entry))
       (holds_both content base (log_bytes entries) (entry_bytes entry) so_far.bytes (subst (λ (n : ℕ). Holds content (base + n) (entry_bytes entry)) so_far.ends next));
   ends = omega (arith, so_far.ends, length-log_bytes-more entries entry);
-}
-
--- the closed gate
-pub read_all : (content : Content) (base distance : ℕ) (entries : List (List ℕ)) → IsRead content base distance entries → content (base + distance) ≢ 1 → distance < 2 ^ 32
-    → StandsFor content base entries
-read_all content base distance entries so_far closed within = record {
-  bytes = so_far.bytes;
-  closed = λ opened. closed (ap (λ (n : ℕ). content (base + n)) so_far.ends ∙ opened);
-  within = omega (arith, so_far.ends);
-}
-
--- a damaged gate
-pub read_damaged : (content : Content) (base distance at : ℕ) (entries : List (List ℕ)) → IsRead content base distance entries → distance < 2 ^ 32 → at ≡ base + distance
-    → IsBadGate content at distance → IsDamaged content base at
-read_damaged content base distance at entries so_far below there bad = record {
-  entries = entries;
-  bytes = so_far.bytes;
-  there = there ∙ ap (λ (n : ℕ). base + n) so_far.ends;
-  within = omega (arith, so_far.ends);
-  bad = subst (IsBadGate content at) so_far.ends bad;
 }
