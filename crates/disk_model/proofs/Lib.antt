@@ -1,0 +1,3 @@
+pub mod ContentLemmas
+pub mod StoreLemmas
+pub mod PlanLemmas

@@ -1,0 +1,5 @@
+pub mod MomentLemmas
+pub mod BootLemmas
+pub mod LogLemmas
+pub mod ScanLemmas
+pub mod LawLemmas
