@@ -25,6 +25,7 @@ pub use content::{BLOCK_BYTES, Blocks, Content, REFERENCES_PER_CHAIN, SLOTS_PER_
 pub use entry::Entry;
 pub use fattr::Fattr;
 pub use file::File;
+pub use fs_layout::{Attrs, Reference};
 pub use geometry::{Geometry, MAX_BLOCKS, MAX_INODES, MAX_MEMORIES, MAX_NODES};
 pub use handle::Handle;
 pub use kept::Kept;
