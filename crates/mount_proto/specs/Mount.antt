@@ -1,5 +1,5 @@
 -- What the mount protocol answers (RFC 1094, appendix A).
-use Rattle.std.specs.Prelude.{◌≡◌, ℕ, ◌==◌, if◌then◌else◌, List, [], ◌∷◌, bytes_eq, Option, Some, None, slice_get, Result, Ok, Err}
+use Rattle.std.specs.Prelude.{ℕ, if◌then◌else◌, List, [], ◌∷◌, bytes_eq, Option, Some, None, slice_get, Result, Ok, Err}
 use Rattle.sfs_xdr.specs.Items.{words}
 use Rattle.sfs_xdr.specs.Codec.{text_item}
 use Rattle.sfs_xdr.specs.declared.arg_fault.ArgFault.{ArgFault}

@@ -1,12 +1,11 @@
 -- What reading the arguments of a procedure gives.
-use Rattle.std.proofs.Common.{◌≡◌, ℕ, ◌<◌, ◌≤◌, List, length, get_or, Option, Some, None, Result, Ok, Err, refl, sym, ap, ◌∙◌, arith}
+use Rattle.std.proofs.Common.{◌≡◌, ℕ, ◌<◌, ◌≤◌, List, get_or, Option, Some, None, Ok, Err, refl, sym, ap, ◌∙◌, arith}
 use Rattle.std.specs.Prelude.{slice_get}
 use Rattle.std.proofs.lemmas.Option.{slice_get_past, slice_get-get_or}
 use Rattle.sfs_xdr.specs.declared.item_fault.ItemFault.{ItemFault}
 use Rattle.sfs_xdr.specs.declared.item_fault.ItemFault.TheVariants as item
 use Rattle.sfs_xdr.specs.Codec.{Reading}
 use Rattle.sfs_xdr.specs.Faults.{fault_of}
-use Rattle.sfs_xdr.specs.declared.arg_fault.ArgFault.{ArgFault}
 use Rattle.sfs_xdr.specs.declared.arg_fault.ArgFault.TheVariants as fault
 use Rattle.nfs_proto.specs.declared.call.Call.{Call}
 use Rattle.nfs_proto.specs.Arguments.{readers, read_by, arguments_of, value_of, told, args_of, null_of}

@@ -1,5 +1,5 @@
 -- Reading takes the spellings of a name of a directory and nothing else, and what is written is one of them.
-use Rattle.std.proofs.Common.{◌≡◌, ◌<◌, ◌≤◌, ◌^◌, ◌++◌, length, refl}
+use Rattle.std.proofs.Common.{◌<◌, ◌≤◌, ◌^◌, ◌++◌, length, refl}
 use Rattle.sfs_base.specs.Reading.{IsExact}
 use Rattle.sfs_xdr.specs.Items.{word, opaque_var}
 use Rattle.sfs_xdr.specs.Codec.{number_item, IsNumber}

@@ -1,9 +1,9 @@
 -- Reading takes the spellings of the types and nothing else, and what is written is one of them.
-use Rattle.std.proofs.Common.{◌≡◌, ℕ, ◌<◌, ◌≤◌, ◌^◌, List, [], ◌∷◌, ◌++◌, length, refl, arith}
+use Rattle.std.proofs.Common.{◌≡◌, ℕ, List, length, refl}
 use Rattle.sfs_base.specs.Reading.{IsExact}
 use Rattle.sfs_xdr.specs.Items.{word, words, opaque}
 use Rattle.sfs_xdr.specs.ItemLemmas.{writers_are_in}
-use Rattle.sfs_xdr.specs.Codec.{Reading, both_of, number_item, fixed_item, ◌⟫◌, IsNumber}
+use Rattle.sfs_xdr.specs.Codec.{Reading, both_of, number_item, ◌⟫◌, IsNumber}
 use Rattle.sfs_xdr.specs.CodecLemmas.{number_exact, fixed_exact, both_exact, made_exact, behind}
 use Rattle.nfs_proto.specs.declared.fattr.Fattr.{Fattr}
 use Rattle.nfs_proto.specs.declared.handle.Handle.{Handle}
@@ -38,10 +38,10 @@ pub sattr_written : (a : Sattr) → AreWords (sattr_words a) → Unit {0} → Is
 sattr_written a t fits =
     behind (word a.mode) _ (t.0, refl)
     (behind (word a.uid) _ (t.1.0, refl)
-      (behind (word a.gid) _ (t.1.1.0, refl)
-        (behind (word a.size) _ (t.1.1.1.0, refl)
-          (behind (words (stamp_words a.atime)) (words (stamp_words a.mtime)) (stamp_written a.atime (t.1.1.1.1.0, (t.1.1.1.1.1.0, tt)) tt)
-            (stamp_written a.mtime (t.1.1.1.1.1.1.0, (t.1.1.1.1.1.1.1.0, tt)) tt)))))
+    (behind (word a.gid) _ (t.1.1.0, refl)
+    (behind (word a.size) _ (t.1.1.1.0, refl)
+    (behind (words (stamp_words a.atime)) (words (stamp_words a.mtime)) (stamp_written a.atime (t.1.1.1.1.0, (t.1.1.1.1.1.0, tt)) tt)
+    (stamp_written a.mtime (t.1.1.1.1.1.1.0, (t.1.1.1.1.1.1.1.0, tt)) tt)))))
 
 pub fattr_exact : IsExact fattr_item IsFattr
 unfolding fattr_item
@@ -50,22 +50,22 @@ fattr_exact =
     (λ a. (a.kind, (a.mode, (a.links, (a.uid, (a.gid, (a.size, (a.block_size, (a.rdev, (a.blocks, (a.fsid, (a.fileid, (a.atime, (a.mtime, a.ctime))))))))))))))
     _ _ (λ p. refl) (λ a. refl)
     (numbered _ _ (numbered _ _ (numbered _ _ (numbered _ _ (numbered _ _ (numbered _ _ (numbered _ _ (numbered _ _ (numbered _ _ (numbered _ _ (numbered _ _
-      (both_exact stamp_item _ IsStamp _ stamp_exact (both_exact stamp_item stamp_item IsStamp IsStamp stamp_exact stamp_exact)))))))))))))
+    (both_exact stamp_item _ IsStamp _ stamp_exact (both_exact stamp_item stamp_item IsStamp IsStamp stamp_exact stamp_exact)))))))))))))
 
 pub fattr_written : (a : Fattr) → AreWords (fattr_words a) → Unit {0} → IsFattr a (words (fattr_words a))
 fattr_written a t fits =
     behind (word a.kind) _ (t.0, refl)
     (behind (word a.mode) _ (t.1.0, refl)
-      (behind (word a.links) _ (t.1.1.0, refl)
-        (behind (word a.uid) _ (t.1.1.1.0, refl)
-          (behind (word a.gid) _ (t.1.1.1.1.0, refl)
-            (behind (word a.size) _ (t.1.1.1.1.1.0, refl)
-              (behind (word a.block_size) _ (t.1.1.1.1.1.1.0, refl)
-                (behind (word a.rdev) _ (t.1.1.1.1.1.1.1.0, refl)
-                  (behind (word a.blocks) _ (t.1.1.1.1.1.1.1.1.0, refl)
-                    (behind (word a.fsid) _ (t.1.1.1.1.1.1.1.1.1.0, refl)
-                      (behind (word a.fileid) _ (t.1.1.1.1.1.1.1.1.1.1.0, refl)
-                        (behind (words (stamp_words a.atime)) _ (stamp_written a.atime (t.1.1.1.1.1.1.1.1.1.1.1.0, (t.1.1.1.1.1.1.1.1.1.1.1.1.0, tt)) tt)
-                          (behind (words (stamp_words a.mtime)) (words (stamp_words a.ctime))
-                            (stamp_written a.mtime (t.1.1.1.1.1.1.1.1.1.1.1.1.1.0, (t.1.1.1.1.1.1.1.1.1.1.1.1.1.1.0, tt)) tt)
-                            (stamp_written a.ctime (t.1.1.1.1.1.1.1.1.1.1.1.1.1.1.1.0, (t.1.1.1.1.1.1.1.1.1.1.1.1.1.1.1.1.0, tt)) tt)))))))))))))
+    (behind (word a.links) _ (t.1.1.0, refl)
+    (behind (word a.uid) _ (t.1.1.1.0, refl)
+    (behind (word a.gid) _ (t.1.1.1.1.0, refl)
+    (behind (word a.size) _ (t.1.1.1.1.1.0, refl)
+    (behind (word a.block_size) _ (t.1.1.1.1.1.1.0, refl)
+    (behind (word a.rdev) _ (t.1.1.1.1.1.1.1.0, refl)
+    (behind (word a.blocks) _ (t.1.1.1.1.1.1.1.1.0, refl)
+    (behind (word a.fsid) _ (t.1.1.1.1.1.1.1.1.1.0, refl)
+    (behind (word a.fileid) _ (t.1.1.1.1.1.1.1.1.1.1.0, refl)
+    (behind (words (stamp_words a.atime)) _ (stamp_written a.atime (t.1.1.1.1.1.1.1.1.1.1.1.0, (t.1.1.1.1.1.1.1.1.1.1.1.1.0, tt)) tt)
+    (behind (words (stamp_words a.mtime)) (words (stamp_words a.ctime))
+    (stamp_written a.mtime (t.1.1.1.1.1.1.1.1.1.1.1.1.1.0, (t.1.1.1.1.1.1.1.1.1.1.1.1.1.1.0, tt)) tt)
+    (stamp_written a.ctime (t.1.1.1.1.1.1.1.1.1.1.1.1.1.1.1.0, (t.1.1.1.1.1.1.1.1.1.1.1.1.1.1.1.1.0, tt)) tt)))))))))))))

@@ -1,5 +1,5 @@
 -- The types of the messages (RFC 1094, section 2.3): how they are spelled, and what reading them gives.
-use Rattle.std.specs.Prelude.{◌≡◌, ◌<◌, ◌^◌, ℕ, List, [], ◌∷◌, Result, Ok}
+use Rattle.std.specs.Prelude.{◌<◌, ◌^◌, ℕ, List, [], ◌∷◌}
 use Rattle.std.specs.List.{AllByRecursion}
 use Rattle.sfs_xdr.specs.Codec.{Reading, both_of, made_of, number_item, fixed_item, text_item, ◌⟫◌, IsNumber, IsFixed, IsText}
 use Rattle.nfs_proto.specs.declared.fattr.Fattr.{Fattr}
@@ -99,4 +99,4 @@ unfoldable pub fattr_item : Reading Fattr
 fattr_item =
     made_of fattr_from
     (both_of number_item (both_of number_item (both_of number_item (both_of number_item (both_of number_item (both_of number_item (both_of number_item (both_of number_item
-      (both_of number_item (both_of number_item (both_of number_item (both_of stamp_item (both_of stamp_item stamp_item)))))))))))))
+    (both_of number_item (both_of number_item (both_of number_item (both_of stamp_item (both_of stamp_item stamp_item)))))))))))))

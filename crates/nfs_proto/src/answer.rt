@@ -4,7 +4,7 @@ use crate::handle::Handle;
 use sfs_base::Bytes;
 
 /// What a call is answered (RFC 1094, section 2.2).
-#[derive(Debug, Drop)]
+#[derive(Debug, PartialEq, Eq, Drop)]
 pub enum Answer {
     /// Nothing: the result of NULL, ROOT and WRITECACHE.
     Empty,
@@ -15,13 +15,22 @@ pub enum Answer {
     /// What a client is told of the file.
     Attr(Fattr),
     /// The file of a name, and what a client is told of it.
-    Found { file: Handle, attr: Fattr },
+    Found {
+        file: Handle,
+        attr: Fattr,
+    },
     /// The path in a symbolic link.
     Path(Bytes),
     /// What a client is told of the file, and the bytes that were read.
-    Part { attr: Fattr, bytes: Bytes },
+    Part {
+        attr: Fattr,
+        bytes: Bytes,
+    },
     /// Names of a directory, and whether these are the last.
-    Names { entries: DirEntries, eof: bool },
+    Names {
+        entries: DirEntries,
+        eof: bool,
+    },
     /// The best size of a transfer, the size of a block, and the numbers of all blocks, of those that are
     /// free and of those that a client may use.
     Space {

@@ -43,11 +43,22 @@ fn write_arguments(call: &Call, writer: &mut Writer) -> Result<(), NoMemory>
             Name::write(name, writer)
         }
         Call::ReadLink { file } => Handle::write(file, writer),
-        Call::Read { file, offset, count, total } => {
+        Call::Read {
+            file,
+            offset,
+            count,
+            total,
+        } => {
             Handle::write(file, writer)?;
             write_words(writer, &[*offset, *count, *total])
         }
-        Call::Write { file, begin, offset, total, bytes } => {
+        Call::Write {
+            file,
+            begin,
+            offset,
+            total,
+            bytes,
+        } => {
             Handle::write(file, writer)?;
             write_words(writer, &[*begin, *offset, *total])?;
             Data::write(bytes, writer)
@@ -61,7 +72,12 @@ fn write_arguments(call: &Call, writer: &mut Writer) -> Result<(), NoMemory>
             Handle::write(dir, writer)?;
             Name::write(name, writer)
         }
-        Call::Rename { from, from_name, to, to_name } => {
+        Call::Rename {
+            from,
+            from_name,
+            to,
+            to_name,
+        } => {
             Handle::write(from, writer)?;
             Name::write(from_name, writer)?;
             Handle::write(to, writer)?;
@@ -72,7 +88,12 @@ fn write_arguments(call: &Call, writer: &mut Writer) -> Result<(), NoMemory>
             Handle::write(dir, writer)?;
             Name::write(name, writer)
         }
-        Call::SymLink { dir, name, path, set } => {
+        Call::SymLink {
+            dir,
+            name,
+            path,
+            set,
+        } => {
             Handle::write(dir, writer)?;
             Name::write(name, writer)?;
             Path::write(path, writer)?;

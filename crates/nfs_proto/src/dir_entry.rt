@@ -13,7 +13,7 @@ pub type DirEntries = Seq<DirEntry>;
 
 /// A name of a directory: the number of its file, the name, and the cookie behind which the next one
 /// stands (RFC 1094, section 2.2.17).
-#[derive(Debug, Drop)]
+#[derive(Debug, PartialEq, Eq, Drop)]
 pub struct DirEntry {
     pub fileid: u32,
     pub name: Bytes,

@@ -1,7 +1,7 @@
 -- What the lines of a transcript say together: the arrivals, the changes and the trees after each of them.
 use Rattle.std.specs.Prelude.{ℕ, zero, suc, ◌+◌, ◌-◌, ◌^◌, ◌==◌, nat_lt, Bool, true, false, ◌&&◌, if◌then◌else◌, List, [], ◌∷◌, ◌++◌, length, slice_get, position, option_map, option_and_then, Option, Some, None, is_some}
 use Rattle.fs_tree.specs.declared.geometry.Geometry.{Geometry}
-use Rattle.fs_tree.specs.declared.stamp.Stamp.{Stamp}
+use Rattle.nfs_proto.specs.declared.stamp.Stamp.{Stamp}
 use Rattle.fs_tree.specs.declared.tree.Tree.{Tree}
 use Rattle.fs_tree.specs.Fresh.{fresh}
 use Rattle.schedule_text.specs.declared.event.Event.{Event}

@@ -1,23 +1,16 @@
-ghost use Rattle.std.specs.Prelude.{◌≡◌, IfOk};
+ghost use Rattle.std.specs.Prelude.{◌≡◌, ◌≤◌, ℕ, List, length, Some, IfOk};
+ghost use Rattle.sfs_xdr.specs.Items.{words};
+ghost use Rattle.rpc_msg.specs.Messages.{accepted, garbage_arguments};
+ghost use Rattle.sfs.specs.declared.request.Request.TheVariants as request;
 ghost use Rattle.rpc_msg.specs.Laws.{called_of};
-ghost use Rattle.sfs.specs.Reply.{heard, asked, is_root, IsSized};
+ghost use Rattle.sfs.specs.Reply.{heard, asked, asked_of_files, asked_to_mount, built, IsSized, IsBuilt};
 
-use fs_tree::{Call, Cred, Handle, ROOT};
-use rpc_msg::{Heard, NFS, RpcCall, read_call, write_reply};
+use fs_tree::{Call, Cred};
+use mount_proto::ArgFault;
+use nfs_proto::read_args;
+use rpc_msg::{Heard, NFS, RpcCall, read_call, write_garbage, write_reply};
 use sfs_base::{Bytes, NoMemory};
 use std::alloc::Global;
-
-/// The generation of the root.
-const ROOT_GENERATION: u32 = 1;
-
-// Procedures of NFS (RFC 1094, section 2.2).
-const NULL: u32 = 0;
-
-const GET_ATTR: u32 = 1;
-
-const ROOT_PROCEDURE: u32 = 3;
-
-const WRITE_CACHE: u32 = 7;
 
 /// What a datagram asks for.
 #[derive(Debug, Drop)]
@@ -35,6 +28,7 @@ impl Request {
     pub fn read(alloc: Global, bytes: &[u8]) -> Result<Option<Request>, NoMemory>
         ensures exact { IfOk result (λ request. request ≡ heard bytes.now) }
         ensures sized { IfOk result IsSized }
+        ensures built { IfOk result IsBuilt }
     {
         match read_call(alloc, bytes)? {
             Heard::Call(call) => Request::of_call(alloc, call),
@@ -47,30 +41,74 @@ impl Request {
     fn of_call(alloc: Global, call: RpcCall) -> Result<Option<Request>, NoMemory>
         ensures exact { IfOk result (λ request. request ≡ asked (called_of call)) }
         ensures sized { IfOk result IsSized }
+        ensures built { IfOk result IsBuilt }
     {
-        if call.program != NFS {
-            return Ok(None);
+        if call.program == NFS {
+            Request::of_files(alloc, call)
+        } else {
+            Request::of_mount(alloc, &call)
         }
-        match call.procedure {
-            NULL | ROOT_PROCEDURE | WRITE_CACHE => {
-                let reply = write_reply(alloc, call.xid, &[])?;
-                Ok(Some(Request::Told(Bytes::from(reply))))
-            }
-            GET_ATTR if is_root(&call.args) => Ok(Some(Request::Asked {
-                xid: call.xid,
-                call: Call::GetAttr {
-                    file: Handle::new(ROOT, ROOT_GENERATION),
-                },
-                cred: call.cred,
-            })),
+    }
+
+    // What a call of NFS asks for.
+    fn of_files(alloc: Global, call: RpcCall) -> Result<Option<Request>, NoMemory>
+        ensures exact { IfOk result (λ request. request ≡ asked_of_files (called_of call)) }
+        ensures sized { IfOk result IsSized }
+        ensures built { IfOk result IsBuilt }
+    {
+        match read_args(alloc, call.procedure, call.args.as_slice()) {
+            Ok(asked) => Request::of_built(alloc, call.xid, asked, call.cred),
+            Err(ArgFault::NoMemory) => Err(NoMemory),
+            Err(_) => Request::garbage(alloc, call.xid),
+        }
+    }
+
+    // What a call of the file system asks for: some do nothing, and most are not built.
+    fn of_built(
+        alloc: Global,
+        xid: u32,
+        call: Call,
+        cred: Cred,
+    ) -> Result<Option<Request>, NoMemory>
+        ensures exact { IfOk result (λ request. request ≡ built xid call cred) }
+        ensures sized { IfOk result IsSized }
+        ensures built { IfOk result IsBuilt }
+    {
+        match call {
+            Call::Null | Call::Root | Call::WriteCache => Request::told(alloc, xid, &[]),
+            Call::GetAttr { .. } => Ok(Some(Request::Asked { xid, call, cred })),
             _ => Ok(None),
         }
     }
-}
 
-// Whether these are the bytes of the root's handle.
-fn is_root(bytes: &Bytes) -> bool
-    ensures { result ≡ is_root bytes.now }
-{
-    bytes.as_slice() == Handle::new(ROOT, ROOT_GENERATION).0.as_slice()
+    // What a call of the mount protocol asks for.
+    fn of_mount(alloc: Global, call: &RpcCall) -> Result<Option<Request>, NoMemory>
+        ensures exact { IfOk result (λ request. request ≡ asked_to_mount (called_of call.now)) }
+        ensures sized { IfOk result IsSized }
+        ensures built { IfOk result IsBuilt }
+    {
+        match mount_proto::answer(alloc, call.procedure, call.args.as_slice()) {
+            Ok(body) => Request::told(alloc, call.xid, body.as_slice()),
+            Err(ArgFault::NoMemory) => Err(NoMemory),
+            Err(_) => Request::garbage(alloc, call.xid),
+        }
+    }
+
+    // It gets the accepted reply with this result.
+    fn told(alloc: Global, xid: u32, body: &[u8]) -> Result<Option<Request>, NoMemory>
+        ensures exact { IfOk result (λ r. r ≡ Some (request.Told (accepted xid body.now))) }
+        ensures sized { (numbers : List ℕ) → length numbers ≤ 18 → body.now ≡ words numbers → IfOk result IsSized }
+        ensures built { IfOk result IsBuilt }
+    {
+        Ok(Some(Request::Told(Bytes::from(write_reply(alloc, xid, body)?))))
+    }
+
+    // Its arguments are out of form.
+    fn garbage(alloc: Global, xid: u32) -> Result<Option<Request>, NoMemory>
+        ensures exact { IfOk result (λ r. r ≡ Some (request.Told (garbage_arguments xid))) }
+        ensures sized { IfOk result IsSized }
+        ensures built { IfOk result IsBuilt }
+    {
+        Ok(Some(Request::Told(Bytes::from(write_garbage(alloc, xid)?))))
+    }
 }

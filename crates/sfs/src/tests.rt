@@ -44,7 +44,7 @@ const AFTER_ARRIVALS: [usize; 2] = [220, 440];
 
 /// A schedule with a call of LOOKUP, which is not built.
 const NOT_BUILT: &[u8] = b"cluster 1 1 1 1
-arrive 0 0 0 000000090000000000000002000186a3000000020000000400000000000000000000000000000000
+arrive 0 0 0 000000090000000000000002000186a300000002000000040000000000000000000000000000000053465331000000010000000100000000000000000000000000000000000000000000000161000000
 end
 ";
 
@@ -76,6 +76,15 @@ fn source(alloc: Global, text: &[u8], failing: &[u64]) -> Result<PlanSource, Fai
 
 fn sink(alloc: Global, failing: &[u64]) -> Result<PlanSink, Fail> {
     Ok(PlanSink::new(alloc, ROOM, Calls::from_slice(alloc, failing)?)?)
+}
+
+// A message of these numbers.
+fn message(alloc: Global, numbers: &[u32]) -> Result<Vec<u8>, Fail> {
+    let mut bytes = Vec::new(alloc);
+    for number in numbers {
+        bytes.extend_from_slice(&number.to_be_bytes())?;
+    }
+    Ok(bytes)
 }
 
 fn words(alloc: Global, texts: &[&str]) -> Result<Vec<String>, Fail> {
@@ -115,6 +124,110 @@ fn messages_are_answered_without_the_file_system(rt: HostRuntime) -> Result<(), 
 fn requests_are_told_apart(rt: HostRuntime) -> Result<(), Fail> {
     let silent = Request::read(rt.alloc(), b"no call")?;
     assert!(rt; matches!(silent, Some(Request::Silent)));
+    Ok(())
+}
+
+#[test]
+fn the_greatest_length_is_refused_everywhere(rt: HostRuntime) -> Result<(), Fail> {
+    let cases: [(&str, &[u32], &[u32]); 17] = [
+        (
+            "the credential",
+            &[9, 0, 2, 100_003, 2, 0, 0, u32::MAX],
+            &[9, 1, 1, 1, 1],
+        ),
+        (
+            "the machine's name",
+            &[9, 0, 2, 100_003, 2, 0, 1, 8, 0, u32::MAX, 0, 0],
+            &[9, 1, 1, 1, 1],
+        ),
+        (
+            "the further groups",
+            &[9, 0, 2, 100_003, 2, 0, 1, 20, 0, 0, 0, 0, u32::MAX, 0, 0],
+            &[9, 1, 1, 1, 1],
+        ),
+        (
+            "the verifier",
+            &[9, 0, 2, 100_003, 2, 0, 0, 0, 0, u32::MAX],
+            &[9, 1, 1, 1, 3],
+        ),
+        (
+            "the name of LOOKUP",
+            &[9, 0, 2, 100_003, 2, 4, 0, 0, 0, 0, 1, 2, 3, 4, 5, 6, 7, 8, u32::MAX],
+            &[9, 1, 0, 0, 0, 4],
+        ),
+        (
+            "the data of WRITE",
+            &[9, 0, 2, 100_003, 2, 8, 0, 0, 0, 0, 1, 2, 3, 4, 5, 6, 7, 8, 0, 0, 0, u32::MAX],
+            &[9, 1, 0, 0, 0, 4],
+        ),
+        (
+            "the name of CREATE",
+            &[9, 0, 2, 100_003, 2, 9, 0, 0, 0, 0, 1, 2, 3, 4, 5, 6, 7, 8, u32::MAX],
+            &[9, 1, 0, 0, 0, 4],
+        ),
+        (
+            "the name of REMOVE",
+            &[9, 0, 2, 100_003, 2, 10, 0, 0, 0, 0, 1, 2, 3, 4, 5, 6, 7, 8, u32::MAX],
+            &[9, 1, 0, 0, 0, 4],
+        ),
+        (
+            "the first name of RENAME",
+            &[9, 0, 2, 100_003, 2, 11, 0, 0, 0, 0, 1, 2, 3, 4, 5, 6, 7, 8, u32::MAX],
+            &[9, 1, 0, 0, 0, 4],
+        ),
+        (
+            "the second name of RENAME",
+            &[9, 0, 2, 100_003, 2, 11, 0, 0, 0, 0, 1, 2, 3, 4, 5, 6, 7, 8, 0, 1, 2, 3, 4, 5, 6, 7, 8, u32::MAX],
+            &[9, 1, 0, 0, 0, 4],
+        ),
+        (
+            "the name of LINK",
+            &[9, 0, 2, 100_003, 2, 12, 0, 0, 0, 0, 1, 2, 3, 4, 5, 6, 7, 8, 1, 2, 3, 4, 5, 6, 7, 8, u32::MAX],
+            &[9, 1, 0, 0, 0, 4],
+        ),
+        (
+            "the name of SYMLINK",
+            &[9, 0, 2, 100_003, 2, 13, 0, 0, 0, 0, 1, 2, 3, 4, 5, 6, 7, 8, u32::MAX],
+            &[9, 1, 0, 0, 0, 4],
+        ),
+        (
+            "the path of SYMLINK",
+            &[9, 0, 2, 100_003, 2, 13, 0, 0, 0, 0, 1, 2, 3, 4, 5, 6, 7, 8, 0, u32::MAX],
+            &[9, 1, 0, 0, 0, 4],
+        ),
+        (
+            "the name of MKDIR",
+            &[9, 0, 2, 100_003, 2, 14, 0, 0, 0, 0, 1, 2, 3, 4, 5, 6, 7, 8, u32::MAX],
+            &[9, 1, 0, 0, 0, 4],
+        ),
+        (
+            "the name of RMDIR",
+            &[9, 0, 2, 100_003, 2, 15, 0, 0, 0, 0, 1, 2, 3, 4, 5, 6, 7, 8, u32::MAX],
+            &[9, 1, 0, 0, 0, 4],
+        ),
+        (
+            "the path of MNT",
+            &[9, 0, 2, 100_005, 1, 1, 0, 0, 0, 0, u32::MAX],
+            &[9, 1, 0, 0, 0, 4],
+        ),
+        (
+            "the path of UMNT",
+            &[9, 0, 2, 100_005, 1, 3, 0, 0, 0, 0, u32::MAX],
+            &[9, 1, 0, 0, 0, 4],
+        ),
+    ];
+    for (field, numbers, reply) in cases {
+        let bytes = message(rt.alloc(), numbers)?;
+        let wanted = message(rt.alloc(), reply)?;
+        match Request::read(rt.alloc(), &bytes)? {
+            Some(Request::Told(told)) => assert_eq!(rt;
+                told.as_slice(),
+                wanted.as_slice(),
+                "at {field}"
+            ),
+            _ => assert!(rt; false, "at {field}"),
+        }
+    }
     Ok(())
 }
 
@@ -311,7 +424,7 @@ fn lines_and_bytes_are_written_whole(rt: HostRuntime) -> Result<(), Fail> {
 
 #[test]
 fn a_fault_is_replied_as_its_number(rt: HostRuntime) -> Result<(), Fail> {
-    let reply = reply_to(rt.alloc(), 5, &Answer::Fault(Answer::STALE))?;
+    let reply = reply_to(rt.alloc(), 5, &Answer::Fault(70))?;
     let mut expected = [0u8; 28];
     expected[3] = 5;
     expected[7] = 1;

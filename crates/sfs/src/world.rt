@@ -3,7 +3,7 @@ ghost use Rattle.schedule_text.specs.declared.event.Event.TheVariants as event;
 ghost use Rattle.schedule_text.specs.declared.limits.TheConstants.{MAX_LINES};
 ghost use Rattle.sfs.specs.Schedule.{Schedule};
 ghost use Rattle.fs_tree.specs.Good.{IsGood};
-ghost use Rattle.sfs.specs.Reply.{effect, reply_in, IsSized, IsSizedReply};
+ghost use Rattle.sfs.specs.Reply.{effect, reply_in, IsSized, IsSizedReply, IsBuilt};
 ghost use Rattle.sfs.specs.World.{closing};
 ghost use Rattle.sfs.specs.Book.{Book};
 
@@ -130,6 +130,7 @@ fn answer(
     request: Request,
     moment: Stamp,
 ) -> Result<Option<Bytes>, NoMemory>
+    requires { IsBuilt (Some request) }
     ensures exact { (arrival : ℕ) → IsGood tree.old → IfOk result (λ reply. reply ≡ reply_in (effect tree.old request arrival moment)) }
     ensures left { IsGood tree.old → OnOk result (tree.new ≡ tree.old) }
     ensures good { IsGood tree.old → IsGood tree.new }

@@ -1,4 +1,4 @@
-use Rattle.std.proofs.Common.{◌≡◌, ap, sym, ◌∙◌}
+use Rattle.std.proofs.Common.{ap, sym, ◌∙◌}
 use Rattle.sfs_xdr.specs.Reading.{opaque_max_of}
 use Rattle.sfs_xdr.specs.CodecLemmas.{plainly_is}
 use Rattle.mount_proto.proofs.mounting.read_path.Goals as goal

@@ -1,4 +1,4 @@
-use Rattle.std.proofs.Common.{◌≡◌, List, Option, Some, None, Ok, Err, sym, ap, ◌∙◌}
+use Rattle.std.proofs.Common.{List, Option, Err, sym, ap, ◌∙◌}
 use Rattle.nfs_proto.specs.declared.form.Form.{Form}
 use Rattle.nfs_proto.specs.Answers.{answer_of, answered_by, result_of, value_of}
 use Rattle.nfs_proto.proofs.ArgumentLemmas.{garbage_is}

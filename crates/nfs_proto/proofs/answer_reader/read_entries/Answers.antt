@@ -1,4 +1,4 @@
-use Rattle.std.proofs.Common.{◌≡◌, ◌-◌, ◌+◌, ℕ, List, length, Ok, true, false, sym, ap, subst, ◌∙◌, arith}
+use Rattle.std.proofs.Common.{◌≡◌, ◌-◌, ◌+◌, length, Ok, true, false, sym, ap, ◌∙◌, arith}
 use Rattle.std.proofs.lemmas.Result.{err_from_is_err_and}
 use Rattle.sfs_xdr.specs.Codec.{boolean_item}
 use Rattle.nfs_proto.proofs.EntryLemmas.{entries_more, entries_end, entries_cut, entries_bad, entries_spent}
@@ -35,8 +35,8 @@ loop-preserved c =
     let read : boolean_item c.loop.reader ≡ Ok (true, c.read.new.reader) =
     (c.in_ok-read.ensures {u = tt}).found ∙ ap (λ b. Ok (b, c.read.new.reader)) c.if-not-branch.false in
     rw ((c.in_ok-push.ensures {u = tt}).ok)
-      (sym (entries_more c.loop.entries (n - c.loop.counter) (n - (c.loop.counter + 1)) c.loop.reader c.read.new.reader c.read-in-loop.new.reader c.in_ok-read-2.field-0
-        (omega (arith, c.loop-test.true)) read ((c.in_ok-read-2.ensures {u = tt}).found)) ∙ c.loop.invariant)
+    (sym (entries_more c.loop.entries (n - c.loop.counter) (n - (c.loop.counter + 1)) c.loop.reader c.read.new.reader c.read-in-loop.new.reader c.in_ok-read-2.field-0
+    (omega (arith, c.loop-test.true)) read ((c.in_ok-read-2.ensures {u = tt}).found)) ∙ c.loop.invariant)
 
 pub returns-clause-malformed : goal.returns-clause-malformed
 returns-clause-malformed c = λ same.

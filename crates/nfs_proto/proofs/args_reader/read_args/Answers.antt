@@ -1,4 +1,4 @@
-use Rattle.std.proofs.Common.{◌≡◌, List, Err, sym, ap, ◌∙◌, arith}
+use Rattle.std.proofs.Common.{Err, sym, ap, ◌∙◌, arith}
 use Rattle.nfs_proto.specs.Arguments.{args_of}
 use Rattle.nfs_proto.proofs.ArgumentLemmas.{args_found, args_garbage, args_past, garbage_is}
 use Rattle.nfs_proto.proofs.args_reader.read_args.Goals as goal

@@ -2,7 +2,7 @@ use Rattle.std.proofs.Common.{◌≡◌, ◌+◌, List, [], ◌∷◌, ◌++◌,
 use Rattle.schedule_text.specs.declared.event.Event.TheVariants as event
 use Rattle.schedule_text.specs.declared.line.Line.{Line}
 use Rattle.schedule_text.specs.declared.line.Line.TheVariants as line
-use Rattle.sfs.specs.Reply.{heard}
+use Rattle.sfs.specs.Reply.{heard, IsBuilt}
 use Rattle.sfs.specs.World.{GoesOn, closing}
 use Rattle.sfs.proofs.ReplyLemmas.{tree_stays}
 use Rattle.sfs.proofs.EventLemmas.{not_come, no_node, no_number, not_heard, goes_on}
@@ -44,7 +44,7 @@ returns-clause-step c schedule book stands within next =
       request = c.in-Some.request;
       is_heard = some;
       reply_is = answered.exact number stands.good;
-      unchanged = tree_stays c.args.self.now.tree c.in-Some.request number c.args.moment;
+      unchanged = tree_stays c.args.self.now.tree c.in-Some.request number c.args.moment (subst IsBuilt c.in-Some.is ((c.in_ok-request.ensures {u = tt}).built));
       tree = answered.left stands.good;
       arrivals = refl;
       points = refl;
