@@ -6,3 +6,4 @@ pub mod CoordinatorLemmas
 pub mod ManagerLemmas
 pub mod MachineLemmas
 pub mod LawLemmas
+pub mod RuleLemmas

@@ -1,5 +1,6 @@
 pub mod Tests
 pub mod Node
+pub mod Rules
 pub mod Coordinator
 pub mod Manager
 pub mod Machine

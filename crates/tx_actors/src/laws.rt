@@ -1,5 +1,6 @@
 //! Laws of the actors of the transaction protocol.
 ghost use Rattle.tx_actors.specs.Laws.{StatesAreRuns, OutcomesStand, OutcomesStay, FailedNeverCommits, CommittedReadsAreFlat, LooksOfOutcomesAreFlat, ReactionsAreAllowed, UndecidedIsOpen, AboveIsNotPassed, FloorsAreGreatest, RecordsAreKept, ImagesAreReplayed};
+ghost use Rattle.tx_actors.specs.Rules.{PrepareFollowsRules};
 ghost use Rattle.tx_actors.specs.Numbers.{IdentifiersAreOrdered, IdentifiersTellTheirCoordinator};
 ghost use Rattle.tx_actors.specs.Sample.{SampleEndsWell};
 
@@ -36,6 +37,11 @@ pub fn looks_of_outcomes_are_flat()
 /// What a memory node appends when any posted message reaches it, it may append by the rules.
 pub fn reactions_are_allowed()
     ensures { ReactionsAreAllowed }
+{}
+
+/// A memory node does with a `prepare` what the first rule that fits does.
+pub fn prepare_follows_rules()
+    ensures { PrepareFollowsRules }
 {}
 
 /// A memory node takes a record for undecided exactly where it holds locks.
