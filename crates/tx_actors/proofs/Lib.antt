@@ -7,3 +7,4 @@ pub mod ManagerLemmas
 pub mod MachineLemmas
 pub mod LawLemmas
 pub mod RuleLemmas
+pub mod HeadlineLemmas

@@ -7,3 +7,4 @@ pub mod Machine
 pub mod Laws
 pub mod Numbers
 pub mod Sample
+pub mod Headline

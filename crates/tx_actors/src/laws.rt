@@ -1,8 +1,14 @@
 //! Laws of the actors of the transaction protocol.
+ghost use Rattle.tx_actors.specs.Headline.{FormattedClustersAreSerial};
 ghost use Rattle.tx_actors.specs.Laws.{StatesAreRuns, OutcomesStand, OutcomesStay, FailedNeverCommits, CommittedReadsAreFlat, LooksOfOutcomesAreFlat, ReactionsAreAllowed, UndecidedIsOpen, AboveIsNotPassed, FloorsAreGreatest, RecordsAreKept, ImagesAreReplayed};
 ghost use Rattle.tx_actors.specs.Rules.{PrepareFollowsRules};
 ghost use Rattle.tx_actors.specs.Numbers.{IdentifiersAreOrdered, IdentifiersTellTheirCoordinator};
 ghost use Rattle.tx_actors.specs.Sample.{SampleEndsWell};
+
+/// Whatever happens to a formatted cluster, its decisions agree, and it holds the flat memory of its points.
+pub fn formatted_clusters_are_serial()
+    ensures { FormattedClustersAreSerial }
+{}
 
 /// Every state that the actors reach is reached by a run of the rules.
 pub fn states_are_runs()
