@@ -3,7 +3,7 @@ ghost use Rattle.tx_actors.specs.Headline.{FormattedClustersAreSerial};
 ghost use Rattle.tx_actors.specs.Laws.{StatesAreRuns, OutcomesStand, OutcomesStay, FailedNeverCommits, CommittedReadsAreFlat, LooksOfOutcomesAreFlat, ReactionsAreAllowed, UndecidedIsOpen, AboveIsNotPassed, FloorsAreGreatest, RecordsAreKept, ImagesAreReplayed};
 ghost use Rattle.tx_actors.specs.Rules.{PrepareFollowsRules};
 ghost use Rattle.tx_actors.specs.Numbers.{IdentifiersAreOrdered, IdentifiersTellTheirCoordinator};
-ghost use Rattle.tx_actors.specs.Sample.{SampleEndsWell};
+ghost use Rattle.tx_actors.specs.Sample.{SampleEndsWell, MessagesMayDisagree};
 
 /// Whatever happens to a formatted cluster, its decisions agree, and it holds the flat memory of its points.
 pub fn formatted_clusters_are_serial()
@@ -88,4 +88,9 @@ pub fn identifiers_tell_their_coordinator()
 /// A run with a crashed coordinator, a participant that stopped, and a sweep.
 pub fn sample_ends_well()
     ensures { SampleEndsWell }
+{}
+
+/// A run in which both decisions on one identifier are posted, after every participant is through with it.
+pub fn messages_may_disagree()
+    ensures { MessagesMayDisagree }
 {}
