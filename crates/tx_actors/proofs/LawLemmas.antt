@@ -12,7 +12,7 @@ use Rattle.tx_actors.specs.Coordinator.{Outcome, Committed, Failed, may_begin, b
 use Rattle.tx_actors.specs.Machine.{State, Input, Begin, ToNode, ToStoppingNode, ToCoordinator, ToManager, GiveUp, Resend, BootCoordinator, BootNode, Sweep, ResendManager, BootManager, numbered, idle, acts, to_node, to_coordinator, to_manager, step, steps, events_of, opened_at}
 use Rattle.tx_actors.specs.Laws.{StatesAreRuns, OutcomesStand, OutcomesStay, FailedNeverCommits, CommittedReadsAreFlat, LooksOfOutcomesAreFlat, ReactionsAreAllowed, UndecidedIsOpen, AboveIsNotPassed, FloorsAreGreatest, RecordsAreKept, ImagesAreReplayed}
 use Rattle.tx_actors.specs.Numbers.{identifier, IdentifiersAreOrdered, IdentifiersTellTheirCoordinator}
-use Rattle.tx_actors.specs.Sample.{SampleEndsWell}
+use Rattle.tx_actors.specs.Sample.{SampleEndsWell, MessagesMayDisagree}
 use Rattle.tx_actors.proofs.TestLemmas.{not_two}
 use Rattle.tx_actors.proofs.NodeLemmas.{handle_good}
 use Rattle.tx_actors.proofs.RecordLemmas.{IsFloor, floor_is, kept_is, not_kept, kept_remembered, StandsSo, standing_is, cast_log, above_not_passed, open_is, is_open}
@@ -283,3 +283,6 @@ identifiers_tell c b q hb hq =
 
 pub sample_ends_well : SampleEndsWell
 sample_ends_well = record { points = refl; first = refl; second = refl; log = refl }
+
+pub messages_may_disagree : MessagesMayDisagree
+messages_may_disagree = record { commit = refl; abort = refl; log = refl }

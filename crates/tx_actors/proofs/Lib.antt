@@ -6,3 +6,5 @@ pub mod CoordinatorLemmas
 pub mod ManagerLemmas
 pub mod MachineLemmas
 pub mod LawLemmas
+pub mod RuleLemmas
+pub mod HeadlineLemmas

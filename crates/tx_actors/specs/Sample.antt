@@ -3,7 +3,8 @@
 use Rattle.std.specs.Prelude.{◌≡◌, ◌*◌, ◌/◌, ◌==◌, true, false, cond, List, [], ◌∷◌, Some, None}
 use Rattle.tx_rules.specs.Mini.{Mini, Setting}
 use Rattle.tx_rules.specs.Decision.{Grant, Commit, Forget, At}
-use Rattle.tx_actors.specs.Machine.{State, Input, Begin, ToNode, ToStoppingNode, ToManager, BootCoordinator, BootNode, Sweep, steps, opened_at}
+use Rattle.tx_rules.specs.World.{DecideCommit, DecideAbort}
+use Rattle.tx_actors.specs.Machine.{State, Input, Begin, ToNode, ToStoppingNode, ToManager, BootCoordinator, BootNode, Sweep, numbered, steps, opened_at}
 
 -- two memory nodes take part; cell 5 of the first gets the byte 42, and cell 7 of the second the byte 43
 abbrev pub sample_mini : Mini
@@ -48,3 +49,21 @@ pub record SampleEndsWell : Type 0 where
   pub second : sample_state.world.image 1 7 ≡ 43
   pub log : sample_state.world.log
       ≡ At 1 (Forget 1) ∷ At 0 (Forget 1) ∷ At 1 (Commit 1) ∷ At 0 (Commit 1) ∷ At 1 (Grant 1) ∷ At 0 (Grant 1) ∷ []
+
+-- after it a newer identifier passes the floors, and the manager hears the old `kept` once more: it asks, is answered
+-- abort, and posts a decision that disagrees with the one before. Every participant is through, so nothing changes
+abbrev pub late_inputs : List Input
+late_inputs =
+    Begin 2 ∷ ToNode 12 0 false ∷ ToNode 12 1 false
+    ∷ ToManager 3 ∷ ToNode 15 0 false ∷ ToManager 16 ∷ ToNode 17 0 false ∷ ToNode 17 1 false ∷ []
+
+-- where that leads
+abbrev pub late_state : State
+late_state = steps sample_setting sample_state late_inputs
+
+-- both decisions on identifier 1 were posted, and its entries are as they were
+pub record MessagesMayDisagree : Type 0 where
+  pub commit : numbered late_state.world.posted 7 ≡ Some (DecideCommit 1)
+  pub abort : numbered late_state.world.posted 17 ≡ Some (DecideAbort 1)
+  pub log : late_state.world.log
+      ≡ At 1 (Grant 2) ∷ At 0 (Grant 2) ∷ At 1 (Forget 1) ∷ At 0 (Forget 1) ∷ At 1 (Commit 1) ∷ At 0 (Commit 1) ∷ At 1 (Grant 1) ∷ At 0 (Grant 1) ∷ []

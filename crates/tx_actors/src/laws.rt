@@ -1,7 +1,14 @@
 //! Laws of the actors of the transaction protocol.
+ghost use Rattle.tx_actors.specs.Headline.{FormattedClustersAreSerial};
 ghost use Rattle.tx_actors.specs.Laws.{StatesAreRuns, OutcomesStand, OutcomesStay, FailedNeverCommits, CommittedReadsAreFlat, LooksOfOutcomesAreFlat, ReactionsAreAllowed, UndecidedIsOpen, AboveIsNotPassed, FloorsAreGreatest, RecordsAreKept, ImagesAreReplayed};
+ghost use Rattle.tx_actors.specs.Rules.{PrepareFollowsRules};
 ghost use Rattle.tx_actors.specs.Numbers.{IdentifiersAreOrdered, IdentifiersTellTheirCoordinator};
-ghost use Rattle.tx_actors.specs.Sample.{SampleEndsWell};
+ghost use Rattle.tx_actors.specs.Sample.{SampleEndsWell, MessagesMayDisagree};
+
+/// Whatever happens to a formatted cluster, its decisions agree, and it holds the flat memory of its points.
+pub fn formatted_clusters_are_serial()
+    ensures { FormattedClustersAreSerial }
+{}
 
 /// Every state that the actors reach is reached by a run of the rules.
 pub fn states_are_runs()
@@ -36,6 +43,11 @@ pub fn looks_of_outcomes_are_flat()
 /// What a memory node appends when any posted message reaches it, it may append by the rules.
 pub fn reactions_are_allowed()
     ensures { ReactionsAreAllowed }
+{}
+
+/// A memory node does with a `prepare` what the first rule that fits does.
+pub fn prepare_follows_rules()
+    ensures { PrepareFollowsRules }
 {}
 
 /// A memory node takes a record for undecided exactly where it holds locks.
@@ -76,4 +88,9 @@ pub fn identifiers_tell_their_coordinator()
 /// A run with a crashed coordinator, a participant that stopped, and a sweep.
 pub fn sample_ends_well()
     ensures { SampleEndsWell }
+{}
+
+/// A run in which both decisions on one identifier are posted, after every participant is through with it.
+pub fn messages_may_disagree()
+    ensures { MessagesMayDisagree }
 {}

@@ -3,7 +3,7 @@ use Rattle.std.proofs.Common.{◌≡◌, ℕ, zero, suc, ◌+◌, ◌==◌, Bool
 use Rattle.std.proofs.lemmas.Bool.{eqb-true, ne_eqb, cases_Bool}
 use Rattle.tx_rules.specs.Mini.{In, Memory, Setting, flat, with_writes}
 use Rattle.tx_rules.specs.Decision.{Record, Grant, Refuse, Commit, Abort, Forget, Entry, At, IsGranted, IsOpen}
-use Rattle.tx_rules.specs.World.{World, Event, Begins, Grants, Completes, Refuses, Commits, Aborts, Forgets, Posts, May, after}
+use Rattle.tx_rules.specs.World.{World, Event, Begins, Grants, Completes, Refuses, Commits, Aborts, Forgets, Posts, May, after, after_all}
 use Rattle.tx_rules.specs.Opening.{IsOpening}
 use Rattle.tx_rules.proofs.GrowthLemmas.{one_node, one_record}
 use Rattle.tx_rules.proofs.SoundLemmas.{IsSound, sound_after, sound_opening}
@@ -67,6 +67,13 @@ points_after s w (Commits m t) = ([], refl)
 points_after s w (Aborts m t) = ([], refl)
 points_after s w (Forgets m t) = ([], refl)
 points_after s w (Posts p) = ([], refl)
+
+pub points_all : (s : Setting) (w : World) (events : List Event) → (new : List ℕ) × ((after_all s w events).points ≡ new ++ w.points)
+points_all s w [] = ([], refl)
+points_all s w (e ∷ events) =
+    let rest = points_all s (after s w e) events in
+    let first = points_after s w e in
+    (rest.0 ++ first.0, rest.1 ∙ ap (λ (x : List ℕ). rest.0 ++ x) first.1 ∙ sym (append_assoc rest.0 first.0 w.points))
 
 -- equal places have equal parts
 pub part_same : (f g : ℕ → ℕ) (place n : ℕ) → ((a : ℕ) → f a ≡ g a) → part f place n ≡ part g place n

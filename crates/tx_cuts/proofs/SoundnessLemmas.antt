@@ -1,12 +1,16 @@
 -- What is sound opens, and what a run leaves is sound.
-use Rattle.std.proofs.Common.{ℕ, inl, inr}
-use Rattle.tx_rules.specs.Mini.{In, Setting, IsLive}
+use Rattle.std.proofs.Common.{ℕ, ◌++◌, inl, inr, subst}
+use Rattle.tx_rules.specs.Mini.{In, Setting, IsLive, flat}
 use Rattle.tx_rules.specs.Decision.{Record, Grant, Refuse, Commit, Abort, Forget, named_in, At, IsGranted}
 use Rattle.tx_rules.specs.World.{World, Stands, opened, after_all}
 use Rattle.tx_rules.specs.Opening.{IsPending}
 use Rattle.tx_rules.proofs.FaithfulLemmas.{point_committed}
 use Rattle.tx_rules.proofs.SoundLemmas.{IsSound, always_sound}
-use Rattle.tx_cuts.specs.Sound.{IsKeptAt, IsUndecided, IsSoundOf, IsToCome, SoundOpens, RunsAreSound}
+use Rattle.tx_actors.proofs.NodeLemmas.{run_append, after_append}
+use Rattle.tx_cuts.specs.Sound.{IsKeptAt, IsUndecided, IsSoundOf, IsToCome, IsSoundFor, SoundOpens, RunsAreSound, CrashImagesAreSound}
+use Rattle.tx_cuts.specs.Laws.{appending_all}
+use Rattle.tx_cuts.proofs.CutLemmas.{points_all}
+use Rattle.tx_cuts.proofs.CrashLemmas.{crash_images_are_reached}
 
 pub sound_opens : SoundOpens
 sound_opens s log image told sound = record {
@@ -98,3 +102,13 @@ runs_are_sound s log image o events run =
       written = λ m a t v c. sound.stored.pending m a t v (to_come_now s w sound m a t v c);
       settled = λ m a none. sound.stored.settled m a (λ t v p. none t v (now_to_come s w sound m a t v p));
     }
+
+pub crash_images_are_sound : CrashImagesAreSound
+crash_images_are_sound s log image o events run durable distinct all =
+    let w = after_all s (opened s log image) events in
+    let more = appending_all s w durable in
+    let both = run_append s (opened s log image) events more run (crash_images_are_reached s w durable distinct all) in (
+      subst (λ (v : World). IsSoundFor s v.log v.image (flat s v.points)) (after_append s (opened s log image) events more)
+          (runs_are_sound s log image o (events ++ more) both),
+      points_all s w more,
+    )

@@ -1,5 +1,5 @@
 pub mod Cut
 pub mod Backup
-pub mod Sound
 pub mod Laws
+pub mod Sound
 pub mod Sample

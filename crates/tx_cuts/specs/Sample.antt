@@ -1,10 +1,13 @@
--- A backup as an example: two memory nodes with images of eight bytes, after one minitransaction, and with another
+-- Examples. A backup: two memory nodes with images of eight bytes, after one minitransaction, and with another
 -- one that is refused while the cut is held.
-use Rattle.std.specs.Prelude.{◌≡◌, ◌*◌, false, List, [], ◌∷◌}
+use Rattle.std.specs.Prelude.{◌≡◌, ◌+◌, ◌*◌, false, List, [], ◌∷◌}
+use Rattle.tx_rules.specs.Mini.{Memory, Setting, with_writes}
+use Rattle.tx_rules.specs.Decision.{Grant, Entry, At}
 use Rattle.tx_actors.specs.Coordinator.{Failed, Committed}
-use Rattle.tx_actors.specs.Machine.{Begin, ToNode, ToCoordinator}
+use Rattle.tx_actors.specs.Machine.{State, Input, Begin, ToNode, ToCoordinator, ToManager, Sweep, steps, opened_at}
 use Rattle.tx_actors.specs.Sample.{sample_setting}
 use Rattle.tx_cuts.specs.Backup.{BackedUp, Whole, WholeInput, Acts, CutToNode, CutToManager, BeginBackup, whole_steps, opened_whole}
+use Rattle.tx_cuts.specs.Sound.{IsTold, IsSoundFor}
 
 -- what happens
 abbrev pub backup_inputs : List WholeInput
@@ -27,3 +30,34 @@ pub record BackupEndsWell : Type 0 where
   pub made : backup_whole.cuts.made ≡ (1, 1 ∷ []) ∷ []
   pub endings : backup_whole.endings ≡ BackedUp 1 ((0 ∷ 0 ∷ 0 ∷ 0 ∷ 0 ∷ 42 ∷ 0 ∷ 0 ∷ []) ∷ (0 ∷ 0 ∷ 0 ∷ 0 ∷ 0 ∷ 0 ∷ 0 ∷ 43 ∷ []) ∷ []) ∷ []
   pub outcomes : backup_whole.outcomes ≡ Failed 2 ∷ Committed 1 ((1, []) ∷ (0, []) ∷ []) ∷ []
+
+-- ---- an opening
+
+-- what is found: both participants have granted identifier 1, and neither has a decision; nothing is applied yet
+abbrev pub found_log : List Entry
+found_log = At 1 (Grant 1) ∷ At 0 (Grant 1) ∷ []
+
+abbrev pub zeros : Memory
+zeros m a = 0
+
+-- so it is committed, and its writes stand in the opening memory
+abbrev pub found_setting : Setting
+found_setting = record sample_setting { found = 1 ∷ []; early = 1 ∷ []; start = with_writes sample_setting 1 zeros }
+
+-- a sweep of memory node 0 finds it, and finishes it
+abbrev pub found_inputs : List Input
+found_inputs =
+    Sweep ∷ ToNode 0 0 false ∷ ToManager 1 ∷ ToNode 2 0 false ∷ ToNode 2 1 false ∷ ToManager 3 ∷ ToManager 4
+    ∷ ToNode 5 0 false ∷ ToNode 5 1 false ∷ []
+
+-- where it leads
+abbrev pub found_state : State
+found_state = steps found_setting (opened_at found_setting found_log zeros (λ c. 100 * c + 2)) found_inputs
+
+-- what is found is an opening; no point is added by the sweep, and the images get the writes
+pub record OpeningEndsWell : Type 0 where
+  pub told : IsTold found_setting found_log
+  pub sound : IsSoundFor found_setting found_log zeros found_setting.start
+  pub points : found_state.world.points ≡ []
+  pub first : found_state.world.image 0 5 ≡ 42
+  pub second : found_state.world.image 1 7 ≡ 43

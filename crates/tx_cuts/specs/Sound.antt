@@ -1,9 +1,12 @@
 -- When the logs and images on disks are sound for a memory, in the terms of kept records.
-use Rattle.std.specs.Prelude.{◌≡◌, ℕ, List, Some, ◌⊎◌, ◌↔◌}
+use Rattle.std.specs.Prelude.{◌≡◌, ℕ, List, ◌++◌, Some, ◌⊎◌, ◌↔◌}
 use Rattle.tx_rules.specs.Mini.{In, Memory, IsMini, Setting, nodes_of, IsLogged, flat}
 use Rattle.tx_rules.specs.Decision.{Record, Commit, Abort, Forget, Entry, At, named_in, IsGranted, IsPassed, IsDecided, IsOpen}
 use Rattle.tx_rules.specs.Opening.{IsOpening}
+use Rattle.tx_rules.specs.World.{IsRun, after_all}
 use Rattle.tx_rules.specs.Laws.{AlwaysHolds}
+use Rattle.tx_actors.specs.Machine.{appending}
+use Rattle.tx_cuts.specs.Laws.{AreDistinct, appending_all}
 
 -- a memory node keeps the record of the identifier: it was granted, and is not forgotten
 pub record IsKeptAt (log : List Entry) (m t : ℕ) : Type 0 where
@@ -57,3 +60,12 @@ SoundOpens = (s : Setting) (log : List Entry) (image : Memory) → IsTold s log 
 -- and what any run leaves at any moment is sound for the flat memory at that moment
 abbrev pub RunsAreSound : Type 0
 RunsAreSound = AlwaysHolds (λ s w. IsSoundFor s w.log w.image (flat s w.points))
+
+-- and so is what several memory nodes leave that went down while they appended, whichever of these appends are
+-- durable: for the flat memory with the points that they complete, behind those so far
+abbrev pub CrashImagesAreSound : Type 0
+CrashImagesAreSound = AlwaysHolds (λ s w. (durable : List (ℕ × List Record)) → AreDistinct durable
+    → ((x : ℕ × List Record) → In x durable → IsRun s w (appending s w x.0 x.1))
+    → IsSoundFor s (after_all s w (appending_all s w durable)).log (after_all s w (appending_all s w durable)).image
+    (flat s (after_all s w (appending_all s w durable)).points)
+    × ((new : List ℕ) × ((after_all s w (appending_all s w durable)).points ≡ new ++ w.points)))

@@ -1,7 +1,7 @@
 //! Laws of cuts, openings and crashes.
 ghost use Rattle.tx_cuts.specs.Laws.{CutRunsAreRuns, CopiesAreFlat, CutPromisesAreKept, CutsAreMadeOnce, HoldsAreStill, OpensAgain, RecordsMayWait, CrashImagesAreReached, WholesAreCutRuns, BackupsAreFlat};
-ghost use Rattle.tx_cuts.specs.Sound.{SoundOpens, RunsAreSound};
-ghost use Rattle.tx_cuts.specs.Sample.{BackupEndsWell};
+ghost use Rattle.tx_cuts.specs.Sound.{SoundOpens, RunsAreSound, CrashImagesAreSound};
+ghost use Rattle.tx_cuts.specs.Sample.{BackupEndsWell, OpeningEndsWell};
 
 /// With cuts the transactions still run by their rules.
 pub fn cut_runs_are_runs()
@@ -66,4 +66,14 @@ pub fn runs_are_sound()
 /// A backup beside two minitransactions, of which one is refused while the cut is held.
 pub fn backup_ends_well()
     ensures { BackupEndsWell }
+{}
+
+/// What memory nodes leave that went down while they appended is sound for the flat memory with the points that they complete.
+pub fn crash_images_are_sound()
+    ensures { CrashImagesAreSound }
+{}
+
+/// An opening with a committed identifier that is undecided everywhere, and a sweep that finishes it.
+pub fn opening_ends_well()
+    ensures { OpeningEndsWell }
 {}
