@@ -1,3 +1,4 @@
 pub mod ContentLemmas
-pub mod StoreLemmas
+pub mod MomentLemmas
 pub mod PlanLemmas
+pub mod StoreLemmas

@@ -10,6 +10,10 @@ disk_of stop = stop.disk
 abbrev pub left_of : {D : Type 0} → Stop D → Option ℕ
 left_of stop = stop.left
 
+-- how many calls it refused so far; it stands still at the last value of a u64
+abbrev pub refused_of : {D : Type 0} → Stop D → ℕ
+refused_of stop = stop.refused
+
 -- the calls that are left after one more
 abbrev pub one_less : Option ℕ → Option ℕ
 one_less None = None

@@ -5,7 +5,11 @@
 //! leave any bytes in those ranges, and the bytes that are there elsewhere (`specs/Crash.antt`). A
 //! caller owes that each range ends below 2^64.
 //!
-//! [`Stop`] lets a stated number of writes and syncs pass and then fails until a restart.
+//! [`PlanDisk`] is a disk in memory that records its [`Change`]s and fails exactly at the calls that its
+//! list names. [`Stop`] lets a stated number of writes and syncs pass to another disk and then fails
+//! until a restart. A [`Shelf`] is where the disks of a cluster lie, and [`PlanShelf`] is one in memory.
+//! What the bytes of a log are, over which the crates above are proved, is stated in
+//! `specs/LogBytes.antt`.
 #![tactic(auto)]
 
 mod change;

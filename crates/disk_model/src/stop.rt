@@ -18,12 +18,13 @@ pub struct Stop<D: Disk> {
 }
 
 impl<D: Disk> Stop<D> {
-    ghost use Rattle.disk_model.specs.Stop.{disk_of, left_of, one_less};
+    ghost use Rattle.disk_model.specs.Stop.{disk_of, left_of, refused_of, one_less};
 
     /// A stop that lets all calls pass to this disk. It takes no memory.
     pub fn new(disk: D) -> Stop<D>
         ensures disk { disk_of result ≡ disk }
         ensures passing { left_of result ≡ None }
+        ensures none { refused_of result ≡ 0 }
     {
         Stop {
             disk,
@@ -44,6 +45,7 @@ impl<D: Disk> Stop<D> {
         requires { left_of self.old ≡ Some 0 → ⊥ }
         ensures left { left_of self.new ≡ calls }
         ensures disk { disk_of self.new ≡ disk_of self.old }
+        ensures refused { refused_of self.new ≡ refused_of self.old }
     {
         self.left = calls;
     }

@@ -7,7 +7,7 @@ use Rattle.std.proofs.lemmas.List.{same_lists}
 use Rattle.disk_model.specs.Crash.{Content, Snapshot, MayLeave, History, put, touched, settled, Holds, LeavesOnly, is_pending}
 use Rattle.disk_model.proofs.ContentLemmas.{put_in, put_out, put_holds}
 use Rattle.gate_log.specs.Boot.{place_of, other_place_of, HasBoot, IsStored, IsNextBoot, IsSameOrNext}
-use Rattle.gate_log.proofs.MomentLemmas.{outside_one, weaker_moments, join_moments}
+use Rattle.disk_model.proofs.MomentLemmas.{outside_one, weaker_moments, join_moments}
 
 get_or_any : (xs : List ℕ) (k d : ℕ) → k < length xs → get_or xs k d ≡ get_or xs k 0
 get_or_any [] k d below = absurd (omega arith)

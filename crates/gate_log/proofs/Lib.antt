@@ -1,4 +1,3 @@
-pub mod MomentLemmas
 pub mod BootLemmas
 pub mod LogLemmas
 pub mod ScanLemmas

@@ -8,7 +8,7 @@ use Rattle.disk_model.specs.Crash.{Content, Snapshot, MayLeave, History, put, to
 use Rattle.disk_model.specs.LogBytes.{entry_bytes, log_bytes, StandsFor}
 use Rattle.disk_model.proofs.ContentLemmas.{put_out, put_holds}
 use Rattle.gate_log.specs.Entries.{IsBeforeOrAfter, Opens, sealed}
-use Rattle.gate_log.proofs.MomentLemmas.{outside_one, weaker_moments, join_moments}
+use Rattle.disk_model.proofs.MomentLemmas.{outside_one, weaker_moments, join_moments}
 
 -- ---- bytes that are held
 

@@ -1,8 +1,8 @@
 -- The entries of a log, read one after another.
-use Rattle.std.proofs.Common.{◌≡◌, ◌≢◌, ℕ, ◌+◌, ◌^◌, ◌<◌, List, [], ◌∷◌, ◌++◌, length, refl, sym, ap, subst, ◌∙◌, arith}
+use Rattle.std.proofs.Common.{◌≡◌, ℕ, ◌+◌, List, [], ◌∷◌, ◌++◌, length, sym, subst, ◌∙◌, arith}
 use Rattle.sfs_xdr.specs.Items.{word}
 use Rattle.disk_model.specs.Crash.{Content, Holds}
-use Rattle.disk_model.specs.LogBytes.{entry_bytes, log_bytes, StandsFor, IsBadGate, IsDamaged}
+use Rattle.disk_model.specs.LogBytes.{entry_bytes, log_bytes}
 use Rattle.gate_log.proofs.LogLemmas.{holds_both, holds_one, log_bytes_more, length-log_bytes-more}
 
 -- an open gate, a length and that many bytes are an entry

@@ -128,13 +128,14 @@ impl<D: Disk> Log<D> {
 
 impl<D: Disk> Log<Stop<D>> {
     ghost use Rattle.gate_log.specs.Log.{disk_of};
-    ghost use Rattle.disk_model.specs.Stop.{disk_of as stopped_disk_of, left_of};
+    ghost use Rattle.disk_model.specs.Stop.{disk_of as stopped_disk_of, left_of, refused_of};
 
     /// From now on this many writes and syncs pass to the disk below, or all of them. It takes no memory.
     pub fn stop_after(&mut self, calls: Option<u32>)
         requires { left_of (disk_of self.old) ≡ Some 0 → ⊥ }
         ensures left { left_of (disk_of self.new) ≡ calls }
         ensures disk { stopped_disk_of (disk_of self.new) ≡ stopped_disk_of (disk_of self.old) }
+        ensures refused { refused_of (disk_of self.new) ≡ refused_of (disk_of self.old) }
         ensures log { self.new ≡ record self.old { disk = disk_of self.new } }
     {
         self.disk.stop_after(calls);

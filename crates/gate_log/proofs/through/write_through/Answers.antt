@@ -1,6 +1,6 @@
 use Rattle.std.proofs.Common.{length}
 use Rattle.std.proofs.lemmas.Result.{on_ok_weaker, on_err_weaker}
-use Rattle.gate_log.proofs.MomentLemmas.{write_failed, write_and_sync}
+use Rattle.disk_model.proofs.MomentLemmas.{write_failed, write_and_sync}
 use Rattle.gate_log.proofs.through.write_through.Goals as goal
 
 pub returns-in_err-write-clause-any_moment : goal.returns-in_err-write-clause-any_moment
