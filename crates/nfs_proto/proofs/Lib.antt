@@ -1,3 +1,4 @@
 pub mod WritingLemmas
 pub mod ArgumentLemmas
 pub mod EntryLemmas
+pub mod ArgumentLaws

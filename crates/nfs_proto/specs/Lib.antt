@@ -3,3 +3,4 @@ pub mod TypeLemmas
 pub mod Arguments
 pub mod Answers
 pub mod AnswerLemmas
+pub mod Laws
