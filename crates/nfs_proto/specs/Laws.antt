@@ -1,11 +1,18 @@
 -- That reading takes just the spellings of arguments and results, and that what is written is one of them.
-use Rattle.std.specs.Prelude.{◌≡◌, ◌<◌, ◌≤◌, ◌^◌, ℕ, length}
+use Rattle.std.specs.Prelude.{◌≡◌, ◌<◌, ◌≤◌, ◌^◌, ℕ, [], ◌∷◌, length}
+use Rattle.std.specs.List.{AllByRecursion}
 use Rattle.sfs_base.specs.Reading.{IsExact}
+use Rattle.nfs_proto.specs.declared.answer.Answer.{Answer}
+use Rattle.nfs_proto.specs.declared.answer.Answer.TheVariants as answer
 use Rattle.nfs_proto.specs.declared.call.Call.{Call}
 use Rattle.nfs_proto.specs.declared.call.Call.TheVariants.{Null, GetAttr, SetAttr, Root, Lookup, ReadLink, Read, WriteCache, Write, Create, Remove, Rename, Link, SymLink, MakeDir, RemoveDir, ReadDir, StatFs}
+use Rattle.nfs_proto.specs.declared.dir_entry.DirEntry.{DirEntry}
+use Rattle.nfs_proto.specs.declared.form.Form.{Form}
+use Rattle.nfs_proto.specs.declared.form.Form.TheVariants as form
 use Rattle.nfs_proto.specs.declared.handle.Handle.{Handle}
-use Rattle.nfs_proto.specs.Types.{AreWords, sattr_words}
+use Rattle.nfs_proto.specs.Types.{AreWords, sattr_words, fattr_words}
 use Rattle.nfs_proto.specs.Arguments.{procedure_of, IsArguments, IsFit, arguments_of, arguments_spelling}
+use Rattle.nfs_proto.specs.Answers.{result_of, IsResult, IsFitAnswer, answer_spelling}
 
 -- a handle has 32 bytes
 abbrev pub IsWhole : Handle → Type 0
@@ -39,3 +46,41 @@ ArgumentsAreExact = (procedure : ℕ) → procedure ≤ 17 → IsExact (argument
 -- what is written of a call is one of its spellings
 abbrev pub ArgumentsAreWritten : Type 0
 ArgumentsAreWritten = (call : Call) → IsTyped call → IsFit call → IsArguments call (arguments_spelling call)
+
+-- ---- results
+
+-- what the types of a name's fields make sure of
+abbrev pub IsTypedEntry : DirEntry → Type 0
+IsTypedEntry e = (e.fileid < 2 ^ 32) × (e.cookie < 2 ^ 32)
+
+-- what the types of an answer's fields make sure of
+abbrev pub IsTypedAnswer : Answer → Type 0
+IsTypedAnswer answer.Empty = Unit {0}
+IsTypedAnswer (answer.Fault status) = status < 2 ^ 32
+IsTypedAnswer answer.Plain = Unit {0}
+IsTypedAnswer (answer.Attr attr) = AreWords (fattr_words attr)
+IsTypedAnswer (answer.Found file attr) = IsWhole file × AreWords (fattr_words attr)
+IsTypedAnswer (answer.Path path) = Unit {0}
+IsTypedAnswer (answer.Part attr bytes) = AreWords (fattr_words attr)
+IsTypedAnswer (answer.Names entries eof) = AllByRecursion IsTypedEntry entries
+IsTypedAnswer (answer.Space tsize bsize blocks bfree bavail) = AreWords (tsize ∷ bsize ∷ blocks ∷ bfree ∷ bavail ∷ [])
+
+-- an answer is one of a procedure whose result has this form
+abbrev pub Belongs : Form → Answer → Type 0
+Belongs f answer.Empty = f ≡ form.Nothing
+Belongs f (answer.Fault status) = f ≡ form.Nothing → ⊥
+Belongs f answer.Plain = f ≡ form.Plain
+Belongs f (answer.Attr attr) = f ≡ form.Attr
+Belongs f (answer.Found file attr) = f ≡ form.Found
+Belongs f (answer.Path path) = f ≡ form.Path
+Belongs f (answer.Part attr bytes) = f ≡ form.Part
+Belongs f (answer.Names entries eof) = f ≡ form.Names
+Belongs f (answer.Space tsize bsize blocks bfree bavail) = f ≡ form.Space
+
+-- reading a result takes its spellings and nothing else
+abbrev pub ResultsAreExact : Type 0
+ResultsAreExact = (f : Form) → IsExact (result_of f) (IsResult f)
+
+-- what is written of an answer is one of its spellings
+abbrev pub ResultsAreWritten : Type 0
+ResultsAreWritten = (f : Form) (a : Answer) → Belongs f a → IsTypedAnswer a → IsFitAnswer a → IsResult f a (answer_spelling a)
