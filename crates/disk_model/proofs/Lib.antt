@@ -1,0 +1,4 @@
+pub mod ContentLemmas
+pub mod MomentLemmas
+pub mod PlanLemmas
+pub mod StoreLemmas

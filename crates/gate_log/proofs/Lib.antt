@@ -1,0 +1,4 @@
+pub mod BootLemmas
+pub mod LogLemmas
+pub mod ScanLemmas
+pub mod LawLemmas

@@ -1,0 +1,11 @@
+use Rattle.gate_log.proofs.LogLemmas.{opens_first, opens_both}
+use Rattle.gate_log.proofs.log.open_behind.Goals as goal
+
+pub returns-in_err-write_through-clause-any_moment : goal.returns-in_err-write_through-clause-any_moment
+returns-in_err-write_through-clause-any_moment g c told =
+    opens_first (g.D.Disk.history c.args.disk.now) (g.D.Disk.history c.write_through.new.disk) c.args.gate c.args.bytes.now (c.in_err-write_through.ensures.any_moment told)
+
+pub returns-clause-any_moment : goal.returns-clause-any_moment
+returns-clause-any_moment g c told =
+    opens_both (g.D.Disk.history c.args.disk.now) (g.D.Disk.history c.write_through.new.disk) (g.D.Disk.history c.write_through-2.new.disk) c.args.gate c.args.bytes.now
+    (c.in_ok-write_through.ensures.ok told) (c.in_ok-write_through.ensures.any_moment told) (c.write_through-2.ensures.any_moment (c.in_ok-write_through.ensures.tells told))

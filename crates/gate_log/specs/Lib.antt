@@ -1,0 +1,4 @@
+pub mod Boot
+pub mod Entries
+pub mod Laws
+pub mod Log

@@ -1,0 +1,165 @@
+ghost use Rattle.std.specs.Prelude.{◌≡◌, ◌⊎◌, ◌↔◌, ◌+◌, ◌^◌, ◌<◌, ◌≤◌, ℕ, true, false, [], ◌∷◌, ◌++◌, List, length, Some, IsTrue, IfOk, IfErr, OnOk, OnErr, IsErrOf};
+ghost use Rattle.disk_model.specs.Crash.{LeavesOnly, put, settled};
+ghost use Rattle.disk_model.specs.Cause.{FailedFor, IsCounted};
+ghost use Rattle.disk_model.specs.LogBytes.{StandsFor, IsDamaged};
+ghost use Rattle.gate_log.specs.Entries.{IsBeforeOrAfter, IsCause, Opens};
+
+use crate::extent::Extent;
+use crate::layout::{HEADER_BYTES, OPEN, is_full, seal};
+use crate::log_fault::LogFault;
+use crate::scan::scan;
+use crate::through::write_through;
+use disk_model::{Disk, Entries, Stop};
+use sfs_base::Failed;
+use std::alloc::Global;
+
+/// A log of entries on a disk.
+#[derive(Debug, Drop)]
+pub struct Log<D: Disk> {
+    alloc: Global,
+    disk: D,
+    extent: Extent,
+    /// An append failed.
+    failed: bool,
+}
+
+impl<D: Disk> Log<D> {
+    ghost use Rattle.gate_log.specs.Log.{disk_of, base_of, end_of, has_failed, IsLog};
+
+    /// Finds the entries of the log that begins at the place `base` of this disk, in order. Nothing may
+    /// be pending on the disk. A refused call hands the disk back. [`LogFault::Failed`]: the disk failed.
+    /// [`LogFault::Damaged`]: an open gate stands there whose entry would end past the limit.
+    /// [`LogFault::NoMemory`]: there is no memory for the entries.
+    pub fn load(alloc: Global, disk: D, base: u64) -> Result<(Log<D>, Entries), (LogFault, D)>
+        requires { base + 2 ^ 32 < 2 ^ 64 }
+        ensures entries { IfOk result (λ loaded. D.tells disk → (D.history disk).now.pending ≡ [] → IsLog D.tells D.history loaded.0 loaded.1) }
+        ensures base { IfOk result (λ loaded. base_of loaded.0 ≡ base) }
+        ensures ready { IfOk result (λ loaded. has_failed loaded.0 ≡ false) }
+        ensures refused { IfErr result (λ refusal. IsCause refusal.0 (FailedFor (D.faults disk) (D.faults refusal.1) (D.is_starved refusal.1))
+            (λ at. D.tells disk → IsDamaged (D.history disk).now.content base at)) }
+
+        // A crash at any moment of the call leaves the same entries.
+        ensures any_moment { IfOk result (λ loaded. D.tells disk → (D.history disk).now.pending ≡ [] → (entries : List (List ℕ)) → StandsFor (D.history disk).now.content base entries
+            → LeavesOnly (D.history disk) (D.history (disk_of loaded.0)) (λ image. StandsFor image base entries)) }
+        ensures any_moment_err { IfErr result (λ refusal. D.tells disk → (D.history disk).now.pending ≡ [] → (entries : List (List ℕ)) → StandsFor (D.history disk).now.content base entries
+            → LeavesOnly (D.history disk) (D.history refusal.1) (λ image. StandsFor image base entries)) }
+
+        // The disk is as it was.
+        ensures same { IfOk result (λ loaded. D.tells disk → D.tells (disk_of loaded.0) × (D.history (disk_of loaded.0) ≡ D.history disk)) }
+        ensures same_err { IfErr result (λ refusal. D.tells disk → D.tells refusal.1 × (D.history refusal.1 ≡ D.history disk)) }
+        ensures kept { IfOk result (λ loaded. D.faults (disk_of loaded.0) ≡ D.faults disk) }
+        ensures later { IfErr result (λ refusal. D.faults disk ≤ D.faults refusal.1) }
+    {
+        let mut disk = disk;
+        match scan(alloc, &mut disk, base) {
+            Ok(scanned) => Ok((
+                Log {
+                    alloc,
+                    disk,
+                    extent: Extent {
+                        base,
+                        end: scanned.end,
+                    },
+                    failed: false,
+                },
+                scanned.entries,
+            )),
+            Err(fault) => Err((fault, disk)),
+        }
+    }
+
+    /// The disk. It touches no byte, and takes no memory.
+    pub fn into_disk(self) -> D
+        ensures { result ≡ disk_of self }
+    {
+        self.disk
+    }
+
+    /// Whether the disk once found no memory. It takes no memory.
+    pub fn starved(&self) -> bool
+        ensures { result ≡ D.is_starved (disk_of self.now) }
+    {
+        self.disk.starved()
+    }
+
+    /// Adds an entry at the end: its bytes behind the closed gate, and once they are safe the gate is
+    /// opened. Where it succeeds, each crash from then on leaves the entry. [`LogFault::Full`]: the gate
+    /// behind the entry would lie at the limit or past it. [`LogFault::Failed`]: the disk failed in this
+    /// call or an earlier one; the log answers this until it is loaded again. [`LogFault::NoMemory`]:
+    /// there is no memory for the entry's bytes.
+    pub fn append(&mut self, entry: &[u8]) -> Result<(), LogFault>
+        ensures appended { OnOk result ((entries : List (List ℕ)) → IsLog D.tells D.history self.old entries
+            → IsLog D.tells D.history self.new (entries ++ entry.now ∷ [])) }
+
+        // A crash at any moment of the call leaves the entries before it, or those and the new one.
+        ensures any_moment { (entries : List (List ℕ)) → IsLog D.tells D.history self.old entries
+            → LeavesOnly (D.history (disk_of self.old)) (D.history (disk_of self.new)) (IsBeforeOrAfter (base_of self.old) entries entry.now) }
+
+        ensures full { IsErrOf result LogFault.Full ↔ ((has_failed self.old ≡ false) × (2 ^ 32 ≤ end_of self.old + 5 + length entry.now)) }
+        ensures failed { IsErrOf result LogFault.Failed → (has_failed self.old ≡ true)
+            ⊎ FailedFor (D.faults (disk_of self.old)) (D.faults (disk_of self.new)) (D.is_starved (disk_of self.new)) }
+        ensures shut { IsErrOf result LogFault.Failed → has_failed self.new ≡ true }
+        ensures stays_shut { has_failed self.old ≡ true → IsErrOf result LogFault.Failed × (self.new ≡ self.old) }
+        ensures refused { OnErr result (IsErrOf result LogFault.Failed ⊎ (self.new ≡ self.old)) }
+        ensures base { base_of self.new ≡ base_of self.old }
+        ensures kept { OnOk result (D.faults (disk_of self.new) ≡ D.faults (disk_of self.old)) }
+        ensures later { D.faults (disk_of self.old) ≤ D.faults (disk_of self.new) }
+    {
+        if self.failed {
+            return Err(LogFault::Failed);
+        }
+        let length = entry.len() as u64;
+        let Extent { base, end } = self.extent;
+        if is_full(end, length) {
+            return Err(LogFault::Full);
+        }
+        let bytes = seal(self.alloc, entry)?;
+        if open_behind(&mut self.disk, base + end, &bytes).is_err() {
+            self.failed = true;
+            return Err(LogFault::Failed);
+        }
+        self.extent = Extent {
+            base,
+            end: end + HEADER_BYTES + length,
+        };
+        Ok(())
+    }
+}
+
+impl<D: Disk> Log<Stop<D>> {
+    ghost use Rattle.gate_log.specs.Log.{disk_of};
+    ghost use Rattle.disk_model.specs.Stop.{disk_of as stopped_disk_of, left_of, refused_of};
+
+    /// From now on this many writes and syncs pass to the disk below, or all of them. It takes no memory.
+    pub fn stop_after(&mut self, calls: Option<u32>)
+        requires { left_of (disk_of self.old) ≡ Some 0 → ⊥ }
+        ensures left { left_of (disk_of self.new) ≡ calls }
+        ensures disk { stopped_disk_of (disk_of self.new) ≡ stopped_disk_of (disk_of self.old) }
+        ensures refused { refused_of (disk_of self.new) ≡ refused_of (disk_of self.old) }
+        ensures log { self.new ≡ record self.old { disk = disk_of self.new } }
+    {
+        self.disk.stop_after(calls);
+    }
+
+    /// Whether the stated number of writes and syncs has returned, so that calls are refused until the
+    /// disk is restarted. It takes no memory.
+    pub fn stopped(&self) -> bool
+        ensures { IsTrue result ↔ (left_of (disk_of self.now) ≡ Some 0) }
+    {
+        self.disk.stopped()
+    }
+}
+
+/// Writes these bytes behind a gate, and opens it.
+fn open_behind<D: Disk>(disk: &mut D, gate: u64, bytes: &[u8]) -> Result<(), Failed>
+    requires { gate + 1 + length bytes.now < 2 ^ 64 }
+    ensures cause { IsCounted (D.faults disk.old) (D.faults disk.new) (D.is_starved disk.old) (D.is_starved disk.new) result }
+    ensures tells { D.tells disk.old → D.tells disk.new }
+    ensures ok { OnOk result (D.tells disk.old → (D.history disk.new).now
+        ≡ settled (put (put (D.history disk.old).now.content (gate + 1) bytes.now) gate (1 ∷ []))) }
+    ensures any_moment { D.tells disk.old
+        → LeavesOnly (D.history disk.old) (D.history disk.new) (Opens (D.history disk.old).now gate bytes.now) }
+{
+    write_through(disk, gate + 1, bytes)?;
+    write_through(disk, gate, &[OPEN])
+}

@@ -1,0 +1,4 @@
+pub mod WritingLemmas
+pub mod ArgumentLemmas
+pub mod EntryLemmas
+pub mod ArgumentLaws
