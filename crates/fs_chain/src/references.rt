@@ -13,7 +13,8 @@ const REFERENCE_WORDS: usize = 2;
 /// The bytes of a reference.
 const REFERENCE_BYTES: usize = WORD_BYTES * REFERENCE_WORDS;
 
-/// The references that the bytes behind a block's header spell. None exactly where one of them is none.
+/// The references that the bytes behind a block's header spell. None exactly where some of them are no
+/// reference.
 pub(crate) fn read_references(bytes: &[u8]) -> Option<[Option<Reference>; REFERENCES_PER_CHAIN]>
     requires { length bytes.now ≡ 4080 }
     ensures found { IfSome result (λ references. (length references ≡ 510) × AreWords (references_words references) × (bytes.now ≡ spelled (references_words references))) }

@@ -1,5 +1,7 @@
 ghost use Rattle.std.specs.Prelude.{◌≡◌, ◌+◌, ◌*◌, ◌<◌, ◌≤◌};
 
+use crate::inode::INODE_BYTES;
+
 /// The greatest number of memory nodes of a cluster.
 pub const MAX_MEMORIES: u32 = 8;
 
@@ -25,10 +27,10 @@ pub const INODE_BITMAP_AT: u32 = BITMAPS_AT + PAGE / 2;
 pub const INODES_AT: u32 = 2 * PAGE;
 
 /// The bytes of a page, as an address counts them.
-const PAGE: u32 = 4_096;
+const PAGE: u32 = BLOCK_BYTES as u32;
 
 /// The bytes of an inode record, as an address counts them.
-const RECORD: u32 = 128;
+const RECORD: u32 = INODE_BYTES as u32;
 
 /// The inode records of a page.
 const RECORDS_PER_PAGE: u32 = PAGE / RECORD;
