@@ -3,9 +3,11 @@
 //! out. Without a word it is silent.
 //!
 //! - [`blocks`]: the records on the blocks of a memory node.
+//! - [`wire`]: messages with 8 KiB of data.
 #![tactic(auto)]
 
 mod blocks;
+mod wire;
 
 use std::{env, io};
 
@@ -13,6 +15,7 @@ fn main(rt: HostRuntime) -> io::Result<()> {
     let mut words = env::args(&rt)?.skip(1);
     match words.next() {
         Some(word) if word.as_str() == "blocks" => blocks::run(&rt),
+        Some(word) if word.as_str() == "wire" => wire::run(&rt),
         _ => Ok(()),
     }
 }
