@@ -8,3 +8,6 @@ mod mounting;
 
 pub use mounting::{LAST_PROCEDURE, MAX_PATH_BYTES, answer};
 pub use sfs_xdr::{ArgFault, Bytes};
+
+#[cfg(test)]
+mod tests;
