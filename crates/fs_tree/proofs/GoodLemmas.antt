@@ -13,12 +13,13 @@ use Rattle.fs_tree.specs.Good.{IsGood}
 use Rattle.std.specs.Prelude.{is_some}
 use Rattle.std.specs.Option.{option_map_or}
 use Rattle.rpc_msg.specs.declared.cred.Cred.{Cred}
-use Rattle.fs_tree.specs.declared.answer.Answer.{Answer}
-use Rattle.fs_tree.specs.declared.answer.Answer.TheVariants.{Fault, Attr}
-use Rattle.fs_tree.specs.declared.call.Call.{Call}
-use Rattle.fs_tree.specs.declared.call.Call.TheVariants.{GetAttr}
-use Rattle.fs_tree.specs.declared.stamp.Stamp.{Stamp}
-use Rattle.fs_tree.specs.Respond.{file_of, named_by, first_failure, decided, told, get_attr, stale, respond}
+use Rattle.nfs_proto.specs.declared.answer.Answer.{Answer}
+use Rattle.nfs_proto.specs.declared.answer.Answer.TheVariants.{Empty, Fault, Attr}
+use Rattle.nfs_proto.specs.declared.call.Call.{Call}
+use Rattle.nfs_proto.specs.declared.call.Call.TheVariants.{Null, GetAttr, SetAttr, Root, Lookup, ReadLink, Read, WriteCache, Write, Create, Remove, Rename, Link, SymLink, MakeDir, RemoveDir, ReadDir, StatFs}
+use Rattle.nfs_proto.specs.declared.handle.Handle.{Handle}
+use Rattle.nfs_proto.specs.declared.stamp.Stamp.{Stamp}
+use Rattle.fs_tree.specs.Respond.{Responded, file_of, first_failure, decided, told, get_attr, stale, is_built, respond}
 
 -- what one entry counts is at most what all count
 part_of_sum : {X : Type 0} (count : X → ℕ) (es : List (ℕ × X)) (q : ℕ) (x : X) → find nat_cmp q es ≡ Some x → count x ≤ sum_by (λ e. count e.1) es
@@ -59,6 +60,57 @@ stale_or_told : (t : Tree) (name : List ℕ) (o : Option File) → file_of t nam
 stale_or_told t name (Some f) is = refl
 stale_or_told t name None is = ap (λ (o : Option File). told t (option_map_or (λ f. Attr (fattr_of (number_in name) f)) o (Fault stale))) (sym is)
 
-pub respond-get_attr : (t : Tree) (call : Call) (cred : Cred) (now : Stamp) (start : ℕ) → respond t call cred now start ≡ get_attr t (named_by call)
+pub respond-get_attr : (t : Tree) (file : Handle) (cred : Cred) (now : Stamp) (start : ℕ) → respond t (GetAttr file) cred now start ≡ get_attr t file.0
 unfolding respond
-respond-get_attr t (GetAttr file) cred now start = stale_or_told t file.0 (file_of t file.0) refl
+respond-get_attr t file cred now start = stale_or_told t file.0 (file_of t file.0) refl
+
+-- ---- the other calls that are built
+
+pub respond-nothing : (t : Tree) (call : Call) (cred : Cred) (now : Stamp) (start : ℕ) → is_built call ≡ true → ((file : Handle) → call ≡ GetAttr file → ⊥)
+    → respond t call cred now start ≡ told t Empty
+unfolding respond
+respond-nothing t Null cred now start built other = refl
+respond-nothing t (GetAttr file) cred now start built other = absurd (other file refl)
+respond-nothing t (SetAttr file set) cred now start built other = absurd cc
+respond-nothing t Root cred now start built other = refl
+respond-nothing t (Lookup dir name) cred now start built other = absurd cc
+respond-nothing t (ReadLink file) cred now start built other = absurd cc
+respond-nothing t (Read file offset count total) cred now start built other = absurd cc
+respond-nothing t WriteCache cred now start built other = refl
+respond-nothing t (Write file begin offset total bytes) cred now start built other = absurd cc
+respond-nothing t (Create dir name set) cred now start built other = absurd cc
+respond-nothing t (Remove dir name) cred now start built other = absurd cc
+respond-nothing t (Rename from from_name to to_name) cred now start built other = absurd cc
+respond-nothing t (Link file dir name) cred now start built other = absurd cc
+respond-nothing t (SymLink dir name path set) cred now start built other = absurd cc
+respond-nothing t (MakeDir dir name set) cred now start built other = absurd cc
+respond-nothing t (RemoveDir dir name) cred now start built other = absurd cc
+respond-nothing t (ReadDir dir cookie count) cred now start built other = absurd cc
+respond-nothing t (StatFs file) cred now start built other = absurd cc
+
+-- what a call that is built leaves: the tree as it is, and no file was made
+pub record Leaves (t : Tree) (r : Responded) : Type 0 where
+  pub tree : r.tree ≡ t
+  pub made : r.made ≡ None
+
+pub respond-leaves : (t : Tree) (call : Call) (cred : Cred) (now : Stamp) (start : ℕ) → is_built call ≡ true → Leaves t (respond t call cred now start)
+unfolding respond
+respond-leaves t Null cred now start built = record { tree = refl; made = refl }
+respond-leaves t (GetAttr file) cred now start built =
+    subst (Leaves t) (sym (respond-get_attr t file cred now start)) (record { tree = refl; made = refl })
+respond-leaves t (SetAttr file set) cred now start built = absurd cc
+respond-leaves t Root cred now start built = record { tree = refl; made = refl }
+respond-leaves t (Lookup dir name) cred now start built = absurd cc
+respond-leaves t (ReadLink file) cred now start built = absurd cc
+respond-leaves t (Read file offset count total) cred now start built = absurd cc
+respond-leaves t WriteCache cred now start built = record { tree = refl; made = refl }
+respond-leaves t (Write file begin offset total bytes) cred now start built = absurd cc
+respond-leaves t (Create dir name set) cred now start built = absurd cc
+respond-leaves t (Remove dir name) cred now start built = absurd cc
+respond-leaves t (Rename from from_name to to_name) cred now start built = absurd cc
+respond-leaves t (Link file dir name) cred now start built = absurd cc
+respond-leaves t (SymLink dir name path set) cred now start built = absurd cc
+respond-leaves t (MakeDir dir name set) cred now start built = absurd cc
+respond-leaves t (RemoveDir dir name) cred now start built = absurd cc
+respond-leaves t (ReadDir dir cookie count) cred now start built = absurd cc
+respond-leaves t (StatFs file) cred now start built = absurd cc

@@ -7,7 +7,7 @@ use Rattle.fs_tree.specs.declared.content.Content.{Content}
 use Rattle.fs_tree.specs.declared.content.Content.TheVariants.{Regular, Link, Directory}
 use Rattle.fs_tree.specs.declared.entry.Entry.{Entry}
 use Rattle.fs_tree.specs.declared.file.File.{File}
-use Rattle.fs_tree.specs.declared.fattr.Fattr.{Fattr}
+use Rattle.nfs_proto.specs.declared.fattr.Fattr.{Fattr}
 
 -- the stored blocks of a file, by their index
 abbrev pub BlockMap : Type 0

@@ -4,7 +4,7 @@ use Rattle.std.specs.FinMap as table
 use Rattle.fs_tree.specs.declared.content.Content.TheVariants.{Directory}
 use Rattle.fs_tree.specs.declared.file.File.{File}
 use Rattle.fs_tree.specs.declared.geometry.Geometry.{Geometry}
-use Rattle.fs_tree.specs.declared.stamp.Stamp.{Stamp}
+use Rattle.nfs_proto.specs.declared.stamp.Stamp.{Stamp}
 use Rattle.fs_tree.specs.declared.tree.Tree.{Tree}
 
 -- the moment at which all its times stand

@@ -1,8 +1,7 @@
 ghost use Rattle.std.specs.Prelude.{◌≡◌, ◌*◌, ◌^◌, ◌<◌, ◌≤◌};
 
 use crate::content::{BLOCK_BYTES, Content};
-use crate::fattr::Fattr;
-use crate::stamp::Stamp;
+use nfs_proto::{Fattr, Stamp};
 
 /// What a client is told of the file system that all files lie on.
 const FSID: u32 = 1;

@@ -1,37 +1,30 @@
 ghost use Rattle.std.specs.Prelude.{◌≡◌};
 ghost use Rattle.fs_tree.specs.Handle.{handle, number_in};
 
-/// How many bytes a handle has (RFC 1094, section 2.3.3).
-pub const HANDLE_BYTES: usize = 32;
+use nfs_proto::Handle;
 
 /// The first word of each handle: "SFS1".
 const MARK: u32 = 0x5346_5331;
 
-/// What a client names a file by (RFC 1094, section 2.3.3): a mark, the file's number and generation,
-/// and zeros (`docs/FORMATS.md`, "Handles").
-#[derive(Clone, Copy, Debug, PartialEq, Eq)]
-pub struct Handle(pub [u8; HANDLE_BYTES]);
+/// The handle of the file with this number and generation: a mark, both of them, and zeros
+/// (`docs/FORMATS.md`, "Handles").
+#[tactic(auto, unfolding(crate::specs::Handle::handle))]
+pub fn handle_of(number: u32, generation: u32) -> Handle
+    ensures { result.0 ≡ handle number generation }
+{
+    let [n0, n1, n2, n3] = number.to_be_bytes();
+    let [g0, g1, g2, g3] = generation.to_be_bytes();
+    let [m0, m1, m2, m3] = MARK.to_be_bytes();
+    Handle([
+        m0, m1, m2, m3, n0, n1, n2, n3, g0, g1, g2, g3, 0, 0, 0, 0, 0, 0, 0, 0, 0, 0, 0, 0, 0, 0,
+        0, 0, 0, 0, 0, 0,
+    ])
+}
 
-impl Handle {
-    /// The handle of the file with this number and generation.
-    #[tactic(auto, unfolding(crate::specs::Handle::handle))]
-    pub fn new(number: u32, generation: u32) -> Handle
-        ensures { result.0 ≡ handle number generation }
-    {
-        let [n0, n1, n2, n3] = number.to_be_bytes();
-        let [g0, g1, g2, g3] = generation.to_be_bytes();
-        let [m0, m1, m2, m3] = MARK.to_be_bytes();
-        Handle([
-            m0, m1, m2, m3, n0, n1, n2, n3, g0, g1, g2, g3, 0, 0, 0, 0, 0, 0, 0, 0, 0, 0, 0, 0, 0,
-            0, 0, 0, 0, 0, 0, 0,
-        ])
-    }
-
-    /// The number at the place of the file's number.
-    pub fn number(&self) -> u32
-        ensures { result ≡ number_in self.now.0 }
-    {
-        let bytes = &self.0;
-        u32::from_be_bytes([bytes[4], bytes[5], bytes[6], bytes[7]])
-    }
+/// The number at the place of the file's number.
+pub(crate) fn number_at(handle: &Handle) -> u32
+    ensures { result ≡ number_in handle.now.0 }
+{
+    let bytes = &handle.0;
+    u32::from_be_bytes([bytes[4], bytes[5], bytes[6], bytes[7]])
 }

@@ -6,32 +6,26 @@
 //! a file's bytes lie. A caller hands in the moment, who calls, and the number for a file that is made.
 #![tactic(auto)]
 
-mod answer;
-mod call;
 mod content;
 mod entry;
-mod fattr;
 mod file;
 mod geometry;
 mod handle;
 mod kept;
 mod laws;
-mod stamp;
 mod tree;
 
-pub use answer::Answer;
-pub use call::Call;
 pub use content::{BLOCK_BYTES, Blocks, Content, REFERENCES_PER_CHAIN, SLOTS_PER_BLOCK, Slots};
 pub use entry::Entry;
-pub use fattr::Fattr;
 pub use file::File;
+pub use fs_layout::{Attrs, Reference};
 pub use geometry::{Geometry, MAX_BLOCKS, MAX_INODES, MAX_MEMORIES, MAX_NODES};
-pub use handle::Handle;
+pub use handle::handle_of;
 pub use kept::Kept;
 pub use laws::fresh_is_good;
+pub use nfs_proto::{Answer, Call, Fattr, Handle, Sattr, Stamp};
 pub use rpc_msg::Cred;
 pub use sfs_base::{Bytes, NoMemory};
-pub use stamp::Stamp;
 pub use tree::{ROOT, Tree};
 
 #[cfg(test)]

@@ -98,14 +98,14 @@ fn each_number_of_a_geometry_has_its_limits(rt: HostRuntime) {
 
 #[test]
 fn a_handle_spells_mark_number_and_generation(rt: HostRuntime) {
-    let handle = Handle::new(0x0102_0304, 0x0506_0708);
+    let handle = handle_of(0x0102_0304, 0x0506_0708);
     let bytes = [
         b'S', b'F', b'S', b'1', 1, 2, 3, 4, 5, 6, 7, 8, 0, 0, 0, 0, 0, 0, 0, 0, 0, 0, 0, 0, 0, 0,
         0, 0, 0, 0, 0, 0,
     ];
     assert_eq!(rt; handle.0, bytes);
-    assert_eq!(rt; handle.number(), 0x0102_0304);
-    assert_eq!(rt; *Call::GetAttr { file: handle }.file(), Handle(bytes));
+    assert_eq!(rt; crate::handle::number_at(&handle), 0x0102_0304);
+    assert_eq!(rt; handle, Handle(bytes));
 }
 
 #[test]
@@ -185,16 +185,16 @@ fn a_fresh_tree_has_the_root_alone(rt: HostRuntime) -> Result<(), Fail> {
 fn only_the_handle_of_a_file_gets_its_attributes(rt: HostRuntime) -> Result<(), Fail> {
     let mut tree = fresh_tree(rt.alloc())?;
     let cred = Cred::nobody(rt.alloc());
-    let mut other_mark = Handle::new(1, 1);
+    let mut other_mark = handle_of(1, 1);
     other_mark.0[0] = b's';
-    let mut other_end = Handle::new(1, 1);
+    let mut other_end = handle_of(1, 1);
     other_end.0[31] = 1;
     let cases = [
-        (Handle::new(1, 1), Answer::Attr(FRESH_ROOT)),
-        (Handle::new(1, 0), Answer::Fault(70)),
-        (Handle::new(1, 2), Answer::Fault(70)),
-        (Handle::new(2, 1), Answer::Fault(70)),
-        (Handle::new(16_385, 1), Answer::Fault(70)),
+        (handle_of(1, 1), Answer::Attr(FRESH_ROOT)),
+        (handle_of(1, 0), Answer::Fault(70)),
+        (handle_of(1, 2), Answer::Fault(70)),
+        (handle_of(2, 1), Answer::Fault(70)),
+        (handle_of(16_385, 1), Answer::Fault(70)),
         (other_mark, Answer::Fault(70)),
         (other_end, Answer::Fault(70)),
     ];

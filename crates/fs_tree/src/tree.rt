@@ -1,18 +1,19 @@
-ghost use Rattle.std.specs.Prelude.{◌≡◌, ℕ, IfOk, OnOk, OnErr};
+ghost use Rattle.std.specs.Prelude.{◌≡◌, ℕ, true, IfOk, OnOk, OnErr};
 ghost use Rattle.std.specs.Option.{option_copied};
 ghost use Rattle.fs_tree.specs.Geometry.{IsWithinLimits};
 
-use crate::answer::Answer;
-use crate::call::Call;
 use crate::content::Content;
 use crate::file::File;
 use crate::geometry::Geometry;
-use crate::handle::Handle;
+use crate::handle::{handle_of, number_at};
 use crate::kept::Kept;
-use crate::stamp::Stamp;
+use nfs_proto::{Answer, Call, Handle, Stamp};
 use rpc_msg::Cred;
 use sfs_base::{NoMemory, Seq, Table};
 use std::alloc::Global;
+
+/// The handle is of no file that is there (RFC 1094, section 2.3.1).
+const STALE: u32 = 70;
 
 /// The number of the root directory.
 pub const ROOT: u32 = 1;
@@ -29,7 +30,7 @@ pub struct Tree {
 impl Tree {
     ghost use Rattle.fs_tree.specs.Fresh.{fresh};
     ghost use Rattle.fs_tree.specs.Good.{IsGood};
-    ghost use Rattle.fs_tree.specs.Respond.{respond, get_attr, file_of, IsPick};
+    ghost use Rattle.fs_tree.specs.Respond.{respond, get_attr, file_of, is_built, IsPick, IsTold};
 
     /// The tree with which a cluster of this size begins: the root alone.
     pub fn fresh(alloc: Global, geometry: Geometry) -> Result<Tree, NoMemory>
@@ -64,7 +65,8 @@ impl Tree {
 
     /// Carries out a call for the caller `cred` at the moment `now`, and answers it as the rules of the
     /// file system say (`docs/FORMATS.md`, "The rules of the file system"). Where the call makes a file,
-    /// `pick` is its number. A good tree stays good. On [`NoMemory`] the tree is as before.
+    /// `pick` is its number. A good tree stays good. On [`NoMemory`] the tree is as before. The calls that
+    /// are built are NULL, GETATTR, ROOT and WRITECACHE.
     pub fn apply(
         &mut self,
         call: &Call,
@@ -72,23 +74,30 @@ impl Tree {
         now: Stamp,
         pick: Option<u32>,
     ) -> Result<Answer, NoMemory>
+        requires { is_built call.now ≡ true }
         ensures answer { (start : ℕ) → IsGood self.old → IsPick self.old call.now cred.now now start pick
             → IfOk result (λ answer. answer ≡ (respond self.old call.now cred.now now start).answer) }
         ensures tree { (start : ℕ) → IsGood self.old → IsPick self.old call.now cred.now now start pick
             → OnOk result (self.new ≡ (respond self.old call.now cred.now now start).tree) }
         ensures good { IsGood self.old → IsGood self.new }
         ensures err { OnErr result (self.new ≡ self.old) }
+        ensures told { IfOk result IsTold }
     {
-        Ok(self.get_attr(call.file()))
+        match call {
+            Call::GetAttr { file } => Ok(self.get_attr(file)),
+            // NULL, ROOT and WRITECACHE do nothing; no other call is built.
+            _ => Ok(Answer::Empty),
+        }
     }
 
     // GETATTR: what a client is told of the file.
     fn get_attr(&self, handle: &Handle) -> Answer
-        ensures { IsGood self.now → result ≡ (get_attr self.now handle.now.0).answer }
+        ensures exact { IsGood self.now → result ≡ (get_attr self.now handle.now.0).answer }
+        ensures told { IsTold result }
     {
         match self.file_of(handle) {
-            Some(file) => Answer::Attr(file.fattr(handle.number())),
-            None => Answer::Fault(Answer::STALE),
+            Some(file) => Answer::Attr(file.fattr(number_at(handle))),
+            None => Answer::Fault(STALE),
         }
     }
 
@@ -96,9 +105,9 @@ impl Tree {
     fn file_of(&self, handle: &Handle) -> Option<&File>
         ensures { option_copied result ≡ file_of self.now handle.now.0 }
     {
-        let number = handle.number();
+        let number = number_at(handle);
         let file = self.files.get(number)?;
-        if *handle == Handle::new(number, file.generation) {
+        if *handle == handle_of(number, file.generation) {
             Some(file)
         } else {
             None

@@ -1,1 +1,3 @@
-pub mod MessageLemmas
+pub mod HeardLemmas
+pub mod CallLemmas
+pub mod RefusalLemmas

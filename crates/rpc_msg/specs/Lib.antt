@@ -1,1 +1,5 @@
 pub mod Messages
+pub mod MessageLemmas
+pub mod Heard
+pub mod Hearing
+pub mod Laws

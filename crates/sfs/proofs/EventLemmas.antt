@@ -1,5 +1,5 @@
 -- What one event of a schedule makes of the book and of the world.
-use Rattle.std.proofs.Common.{◌≡◌, ℕ, zero, suc, ◌+◌, ◌-◌, ◌^◌, ◌<◌, ◌≤◌, Bool, true, false, cond, ◌&&◌, eqb, ltb, List, [], ◌∷◌, ◌++◌, length, get_or, Some, None, refl, sym, ap, subst, ◌∙◌, arith}
+use Rattle.std.proofs.Common.{◌≡◌, ℕ, zero, suc, ◌+◌, ◌-◌, ◌^◌, ◌<◌, ◌≤◌, Bool, true, false, cond, ◌&&◌, eqb, ltb, List, [], ◌∷◌, ◌++◌, length, get_or, Option, Some, None, refl, sym, ap, subst, ◌∙◌, arith}
 use Rattle.std.specs.Prelude.{slice_get, position, option_map, option_and_then, is_some, All}
 use Rattle.std.specs.List.{position_or_len}
 use Rattle.std.proofs.lemmas.Bool.{le-ltb, eqb-true}
@@ -8,9 +8,10 @@ use Rattle.std.proofs.lemmas.List.{length_push}
 use Rattle.std.proofs.lemmas.List.Elements.{All-contains, All-push, All-weaker}
 use Rattle.std.proofs.lemmas.List.Sums.{position_or_len_is}
 use Rattle.fs_tree.specs.declared.geometry.Geometry.{Geometry}
-use Rattle.fs_tree.specs.declared.stamp.Stamp.{Stamp}
+use Rattle.nfs_proto.specs.declared.stamp.Stamp.{Stamp}
 use Rattle.fs_tree.specs.declared.tree.Tree.{Tree}
 use Rattle.fs_tree.specs.Good.{IsGood}
+use Rattle.schedule_text.specs.declared.drop_why.DropWhy.TheVariants as why
 use Rattle.schedule_text.specs.declared.event.Event.{Event}
 use Rattle.schedule_text.specs.declared.event.Event.TheVariants as event
 use Rattle.schedule_text.specs.declared.limits.TheConstants.{MAX_LINES}
@@ -18,11 +19,13 @@ use Rattle.schedule_text.specs.declared.line.Line.{Line}
 use Rattle.schedule_text.specs.declared.line.Line.TheVariants as line
 use Rattle.sfs.specs.declared.world.World.{World}
 use Rattle.sfs.specs.Schedule.{Schedule}
-use Rattle.sfs.specs.Reply.{Request, heard, responded, reply}
+use Rattle.sfs.specs.declared.request.Request.{Request}
+use Rattle.sfs.specs.declared.request.Request.TheVariants as request
+use Rattle.sfs.specs.Reply.{heard, Effect, effect, reply_in}
 use Rattle.sfs.specs.Book.{Book, Arrival, numbered, point_of, may_come, come_from, next_event, with_arrival, noted, book_after}
-use Rattle.sfs.specs.Legal.{IsRunning, Arrives, Replies, HoldsAt, IsLegalFrom}
+use Rattle.sfs.specs.Legal.{IsRunning, Arrives, Replies, Drops, HoldsAt, IsAllowed, IsLegalFrom}
 use Rattle.sfs.specs.Completes.{reached}
-use Rattle.sfs.specs.World.{Stands, GoesOn}
+use Rattle.sfs.specs.World.{Stands, GoesOn, closing}
 
 -- ---- the next event
 
@@ -103,19 +106,32 @@ no_place xs n most each above =
     differs : (a : ℕ) → a ≤ most → eqb a n ≡ false
     differs a low = is_false (eqb a n) (λ same. let e = eqb-true a n same in absurd (omega arith))
 
--- an arrival that was taken: its reply, and the world behind it
-pub record Answered (w after : World) (node : ℕ) (moment : Stamp) (bytes sent : List ℕ) : Type 0 where
+-- an arrival that was taken: its reply, if it gets one, and the world behind it
+pub record Answered (w after : World) (node : ℕ) (moment : Stamp) (bytes : List ℕ) (sent : Option (List ℕ)) : Type 0 where
   pub there : node < w.tree.geometry.nodes
   pub few : w.arrivals < 2 ^ 32 - 1
   pub request : Request
   pub is_heard : heard bytes ≡ Some request
-  pub reply_is : sent ≡ reply w.tree request (w.arrivals + 1) moment
-  pub unchanged : (responded w.tree request (w.arrivals + 1) moment).tree ≡ w.tree
+  pub reply_is : sent ≡ reply_in (effect w.tree request (w.arrivals + 1) moment)
+  pub unchanged : (e : Effect) → effect w.tree request (w.arrivals + 1) moment ≡ Some e → e.tree ≡ w.tree
   pub tree : after.tree ≡ w.tree
   pub arrivals : after.arrivals ≡ w.arrivals + 1
   pub points : after.points ≡ w.points
 
-module _ (schedule : Schedule) (book : Book) (w after : World) (node : ℕ) (moment : Stamp) (bytes sent : List ℕ) (stands : Stands schedule book w) (within : book.lines < MAX_LINES) (next : slice_get schedule book.lines ≡ Some (Some (event.Arrive node moment.sec moment.usec bytes))) (answered : Answered w after node moment bytes sent) where
+-- what gets no reply is silence
+no_reply : (t : Tree) (r : Request) (arrival : ℕ) (moment : Stamp) → effect t r arrival moment ≡ None → r ≡ request.Silent
+no_reply t (request.Told reply) arrival moment e = absurd cc
+no_reply t request.Silent arrival moment e = refl
+no_reply t (request.Asked xid call cred) arrival moment e = absurd cc
+
+-- the line that ends an arrival ends it in the book
+noted_closing : (schedule : Schedule) (book : Book) (arrival at : ℕ) (o : Option (List ℕ))
+    → noted schedule book (closing arrival at o) ≡ record book { ended = book.ended ++ arrival ∷ [] }
+unfolding noted
+noted_closing schedule book arrival at (Some bytes) = refl
+noted_closing schedule book arrival at None = refl
+
+module _ (schedule : Schedule) (book : Book) (w after : World) (node : ℕ) (moment : Stamp) (bytes : List ℕ) (sent : Option (List ℕ)) (stands : Stands schedule book w) (within : book.lines < MAX_LINES) (next : slice_get schedule book.lines ≡ Some (Some (event.Arrive node moment.sec moment.usec bytes))) (answered : Answered w after node moment bytes sent) where
   number : ℕ
   number = w.arrivals + 1
 
@@ -138,12 +154,12 @@ module _ (schedule : Schedule) (book : Book) (w after : World) (node : ℕ) (mom
   unfolding noted number here came
   noted_first = ap (with_arrival book) it_comes
 
-  lines : List Line
-  lines = line.DoArrive number node ∷ line.Reply number w.points sent ∷ []
+  last : Line
+  last = closing number w.points sent
 
-  book_is : book_after schedule book lines ≡ ended
-  unfolding book_after noted number lines here came ended
-  book_is = ap (λ (b : Book). record b { ended = b.ended ++ number ∷ [] }) noted_first
+  book_is : book_after schedule book (line.DoArrive number node ∷ last ∷ []) ≡ ended
+  unfolding book_after last ended came
+  book_is = noted_closing schedule (noted schedule book (line.DoArrive number node)) number w.points sent ∙ ap (λ (b : Book). record b { ended = b.ended ++ number ∷ [] }) noted_first
 
   arrives : Arrives schedule book number node
   unfolding number
@@ -168,22 +184,44 @@ module _ (schedule : Schedule) (book : Book) (w after : World) (node : ℕ) (mom
   unfolding number here came
   no_point = ap (option_map (λ k. k + 1)) (no_place book.points number (length book.arrivals) stands.changed (omega (arith, stands.arrivals)))
 
-  replies : Replies came number w.points sent
+  replies : (e : Effect) → effect w.tree answered.request number moment ≡ Some e → Replies came number w.points e.reply
   unfolding number here came
-  replies = record {
+  replies e is = record {
     a = here;
     running = it_runs;
     request = answered.request;
     heard_as = answered.is_heard;
     tree = w.tree;
-    holds = subst (HoldsAt came here answered.request number w.points w.tree) (sym no_point)
-        (omega (arith, stands.points), omega (arith, stands.points), ap (slice_get book.trees) stands.points ∙ stands.last, answered.unchanged);
-    is = answered.reply_is;
+    e = e;
+    answered = is;
+    holds = subst (HoldsAt came here e w.points w.tree) (sym no_point)
+        (omega (arith, stands.points), omega (arith, stands.points), ap (slice_get book.trees) stands.points ∙ stands.last, answered.unchanged e is);
+    is = refl;
   }
 
-  legal : IsLegalFrom schedule book lines
-  unfolding IsLegalFrom lines
-  legal = (arrives, (subst (λ (b : Book). Replies b number w.points sent) (sym noted_first) replies, tt))
+  drops : effect w.tree answered.request number moment ≡ None → Drops came number why.Silent
+  unfolding number here came
+  drops none = record {
+    a = here;
+    running = it_runs;
+    heard_as = answered.is_heard ∙ ap Some (no_reply w.tree answered.request number moment none);
+    is = refl;
+  }
+
+  -- the line that ends it may come
+  allowed : (o : Option Effect) → effect w.tree answered.request number moment ≡ o → IsAllowed schedule came (closing number w.points (reply_in o))
+  allowed (Some e) is = replies e is
+  allowed None is = drops is
+
+  last_allowed : IsAllowed schedule (noted schedule book (line.DoArrive number node)) last
+  unfolding last number
+  last_allowed =
+      subst (λ (b : Book). IsAllowed schedule b (closing number w.points sent)) (sym noted_first)
+      (subst (λ (o : Option (List ℕ)). IsAllowed schedule came (closing number w.points o)) (sym answered.reply_is) (allowed (effect w.tree answered.request number moment) refl))
+
+  legal : IsLegalFrom schedule book (line.DoArrive number node ∷ last ∷ [])
+  unfolding IsLegalFrom
+  legal = (arrives, (last_allowed, tt))
 
   it_stands : Stands schedule ended after
   unfolding number here came ended
@@ -201,8 +239,8 @@ module _ (schedule : Schedule) (book : Book) (w after : World) (node : ℕ) (mom
   }
 
   -- both lines are legal, and the world is where they leave it
-  pub goes_on : GoesOn schedule book after (line.DoArrive (w.arrivals + 1) node ∷ line.Reply (w.arrivals + 1) w.points sent ∷ [])
-  unfolding number here came ended lines
+  pub goes_on : GoesOn schedule book after (line.DoArrive (w.arrivals + 1) node ∷ closing (w.arrivals + 1) w.points sent ∷ [])
+  unfolding number here came ended last
   goes_on = record {
     legal = legal;
     stands = subst (λ (b : Book). Stands schedule b after) (sym book_is) it_stands;

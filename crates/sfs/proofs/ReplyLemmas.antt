@@ -1,68 +1,89 @@
 -- The reply to the one call that is heard so far.
-use Rattle.std.proofs.Common.{◌≡◌, ℕ, ◌≤◌, List, [], ◌∷◌, length, ap, ◌∙◌, arith}
+use Rattle.std.proofs.Common.{◌≡◌, ℕ, true, ◌≤◌, List, [], ◌∷◌, length, Some, sym, ap, subst, ◌∙◌, arith}
 use Rattle.std.proofs.lemmas.List.{length-append}
 use Rattle.sfs_base.proofs.ReadingLemmas.{IsBytes-append}
-use Rattle.rpc_msg.specs.Messages.{words, accepted}
-use Rattle.rpc_msg.proofs.MessageLemmas.{length-words, words_bytes}
-use Rattle.fs_tree.specs.declared.answer.Answer.{Answer}
-use Rattle.fs_tree.specs.declared.answer.Answer.TheVariants.{Fault, Attr}
+use Rattle.sfs_xdr.specs.Items.{words}
+use Rattle.rpc_msg.specs.Messages.{accepted}
+use Rattle.rpc_msg.proofs.CallLemmas.{length-words, words_bytes}
+use Rattle.rpc_msg.proofs.RefusalLemmas.{AreFew}
+use Rattle.nfs_proto.specs.declared.answer.Answer.{Answer}
+use Rattle.nfs_proto.specs.declared.answer.Answer.TheVariants.{Empty, Fault, Plain, Attr, Found, Path, Part, Names, Space}
 use Rattle.schedule_text.specs.Words.{IsDatagram}
 use Rattle.std.specs.Prelude.{◌%◌, Option, None}
 use Rattle.rpc_msg.specs.declared.cred.Cred.{Cred}
-use Rattle.fs_tree.specs.declared.call.Call.{Call}
-use Rattle.fs_tree.specs.declared.call.Call.TheVariants.{GetAttr}
-use Rattle.fs_tree.specs.declared.handle.Handle.{Handle}
-use Rattle.fs_tree.specs.declared.stamp.Stamp.{Stamp}
+use Rattle.nfs_proto.specs.declared.call.Call.{Call}
+use Rattle.nfs_proto.specs.declared.stamp.Stamp.{Stamp}
 use Rattle.fs_tree.specs.declared.tree.Tree.{Tree}
-use Rattle.fs_tree.specs.Handle.{handle}
-use Rattle.fs_tree.specs.Respond.{Responded, respond, IsPick}
-use Rattle.fs_tree.proofs.GoodLemmas.{respond-get_attr}
-use Rattle.sfs.specs.Reply.{answer_words, answer_spelling, nobody, root_call, root_request, responded}
-
--- an answer has at most 18 numbers
-few_words : (answer : Answer) → length (answer_words answer) ≤ 18
-few_words (Fault status) = omega arith
-few_words (Attr attr) = omega arith
+use Rattle.nfs_proto.specs.Types.{fattr_words}
+use Rattle.nfs_proto.specs.Answers.{is_fault, answer_spelling, IsFitAnswer}
+use Rattle.fs_tree.specs.Respond.{respond, is_built, IsPick, IsTold}
+use Rattle.fs_tree.proofs.GoodLemmas.{respond-leaves}
+use Rattle.sfs.specs.declared.request.Request.{Request}
+use Rattle.sfs.specs.declared.request.Request.TheVariants as request
+use Rattle.sfs.specs.Reply.{Effect, replied, effect, IsBuilt}
 
 -- the head of a reply
 abbrev head : ℕ → List ℕ
 head xid = xid ∷ 1 ∷ 0 ∷ 0 ∷ 0 ∷ 0 ∷ []
 
--- a reply fits a datagram
-pub reply_sized : (xid : ℕ) (answer : Answer) → IsDatagram (accepted xid (answer_spelling answer))
-unfolding answer_spelling
-reply_sized xid answer =
+-- a reply of a few numbers fits a datagram
+pub words_sized : (xid : ℕ) (numbers : List ℕ) → length numbers ≤ 18 → IsDatagram (accepted xid (words numbers))
+words_sized xid numbers few =
     let front = length-words (head xid) in
-    let body = length-words (answer_words answer) in
-    let both = length-append (words (head xid)) (words (answer_words answer)) in
+    let body = length-words numbers in
+    let both = length-append (words (head xid)) (words numbers) in
     record {
-      size = record { some = omega (arith, front, body, both); within = omega (arith, front, body, both, few_words answer) };
-      each = IsBytes-append (words (head xid)) (words (answer_words answer)) (words_bytes (head xid)) (words_bytes (answer_words answer));
+      size = record { some = omega (arith, front, body, both); within = omega (arith, front, body, both, few) };
+      each = IsBytes-append (words (head xid)) (words numbers) (words_bytes (head xid)) (words_bytes numbers);
     }
 
--- ---- GETATTR of the root
+-- so does that of a call that is built
+pub reply_sized : (xid : ℕ) (answer : Answer) → IsTold answer → IsDatagram (accepted xid (answer_spelling answer))
+reply_sized xid Empty told = words_sized xid [] (omega arith)
+reply_sized xid (Fault status) told = words_sized xid (status ∷ []) (omega arith)
+reply_sized xid Plain told = absurd told
+reply_sized xid (Attr attr) told = words_sized xid (0 ∷ fattr_words attr) (omega arith)
+reply_sized xid (Found file attr) told = absurd told
+reply_sized xid (Path path) told = absurd told
+reply_sized xid (Part attr bytes) told = absurd told
+reply_sized xid (Names entries eof) told = absurd told
+reply_sized xid (Space tsize bsize blocks bfree bavail) told = absurd told
 
--- who calls without a credential
-same_cred : (cred : Cred) → cred.uid ≡ 65534 → cred.gid ≡ 65534 → cred.gids ≡ [] → cred ≡ nobody
-same_cred cred uid gid gids = λ i. record { uid = uid i; gid = gid i; gids = gids i }
+-- and its answer has a spelling
+pub told_fits : (answer : Answer) → IsTold answer → IsFitAnswer answer
+told_fits Empty told = tt
+told_fits (Fault status) told = ap is_fault told
+told_fits Plain told = absurd told
+told_fits (Attr attr) told = tt
+told_fits (Found file attr) told = absurd told
+told_fits (Path path) told = absurd told
+told_fits (Part attr bytes) told = absurd told
+told_fits (Names entries eof) told = absurd told
+told_fits (Space tsize bsize blocks bfree bavail) told = absurd told
 
--- the call, made of the root's handle
-same_call : (h : Handle) → h.0 ≡ handle 1 1 → GetAttr h ≡ root_call
-same_call h is = ap (λ (b : List ℕ). GetAttr (record { 0 = b })) is
-
--- what the root's handle and no credential are answered is what the request is answered
-module _ (t : Tree) (h : Handle) (cred : Cred) (moment : Stamp) (arrival xid : ℕ) (is : h.0 ≡ handle 1 1) (uid : cred.uid ≡ 65534) (gid : cred.gid ≡ 65534) (gids : cred.gids ≡ []) where
-  pub same_response : respond t (GetAttr h) cred moment (arrival % t.geometry.memories) ≡ responded t (root_request xid) arrival moment
-  same_response =
-      ap (λ (c : Call). respond t c cred moment (arrival % t.geometry.memories)) (same_call h is)
-      ∙ ap (λ (c : Cred). respond t root_call c moment (arrival % t.geometry.memories)) (same_cred cred uid gid gids)
+-- ---- requests
 
 -- nothing is made, so that no number is picked
-pub nothing_made : (t : Tree) (call : Call) (cred : Cred) (now : Stamp) (start : ℕ) (pick : Option ℕ) → IsPick t call cred now start pick
-nothing_made t call cred now start pick some =
-    let none : (respond t call cred now start).made ≡ None = ap (λ (r : Responded). r.made) (respond-get_attr t call cred now start) in
-    absurd (cc (some, none))
+pub nothing_made : (t : Tree) (call : Call) (cred : Cred) (now : Stamp) (start : ℕ) (pick : Option ℕ) → is_built call ≡ true → IsPick t call cred now start pick
+nothing_made t call cred now start pick built some = absurd (cc (some, (respond-leaves t call cred now start built).made))
 
--- the request leaves the tree as it is
-pub tree_stays : (t : Tree) (xid arrival : ℕ) (moment : Stamp) → (responded t (root_request xid) arrival moment).tree ≡ t
-tree_stays t xid arrival moment = ap (λ (r : Responded). r.tree) (respond-get_attr t root_call nobody moment (arrival % t.geometry.memories))
+-- no call that is built changes the tree
+pub call_leaves : (t : Tree) (call : Call) (cred : Cred) (now : Stamp) (start : ℕ) → is_built call ≡ true → (respond t call cred now start).tree ≡ t
+call_leaves t call cred now start built = (respond-leaves t call cred now start built).tree
+
+-- and no request does
+pub tree_stays : (t : Tree) (r : Request) (arrival : ℕ) (moment : Stamp) → IsBuilt (Some r) → (e : Effect) → effect t r arrival moment ≡ Some e → e.tree ≡ t
+tree_stays t (request.Told reply) arrival moment built e is = let same : record { reply = reply; tree = t; made = None } ≡ e = cc in ap (λ (x : Effect). x.tree) (sym same)
+tree_stays t request.Silent arrival moment built e is = absurd cc
+tree_stays t (request.Asked xid call cred) arrival moment built e is =
+    let same : replied xid (respond t call cred moment (arrival % t.geometry.memories)) ≡ e = cc in
+    ap (λ (x : Effect). x.tree) (sym same) ∙ call_leaves t call cred moment (arrival % t.geometry.memories) built
+
+-- a refusal fits a datagram
+pub refusal_sized : (reply : List ℕ) → AreFew reply → IsDatagram reply
+refusal_sized reply is =
+    let len = length-words is.numbers in
+    subst IsDatagram (sym is.spelled) (record {
+      size = record { some = omega (arith, len, is.some); within = omega (arith, len, is.few) };
+      each = words_bytes is.numbers;
+    })

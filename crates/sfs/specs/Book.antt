@@ -1,16 +1,15 @@
 -- What the lines of a transcript say together: the arrivals, the changes and the trees after each of them.
 use Rattle.std.specs.Prelude.{ℕ, zero, suc, ◌+◌, ◌-◌, ◌^◌, ◌==◌, nat_lt, Bool, true, false, ◌&&◌, if◌then◌else◌, List, [], ◌∷◌, ◌++◌, length, slice_get, position, option_map, option_and_then, Option, Some, None, is_some}
 use Rattle.fs_tree.specs.declared.geometry.Geometry.{Geometry}
-use Rattle.fs_tree.specs.declared.stamp.Stamp.{Stamp}
+use Rattle.nfs_proto.specs.declared.stamp.Stamp.{Stamp}
 use Rattle.fs_tree.specs.declared.tree.Tree.{Tree}
 use Rattle.fs_tree.specs.Fresh.{fresh}
-use Rattle.fs_tree.specs.Respond.{Responded}
 use Rattle.schedule_text.specs.declared.event.Event.{Event}
 use Rattle.schedule_text.specs.declared.event.Event.TheVariants as event
 use Rattle.schedule_text.specs.declared.limits.TheConstants.{MAX_LINES}
 use Rattle.schedule_text.specs.declared.line.Line.{Line}
 use Rattle.schedule_text.specs.declared.line.Line.TheVariants as line
-use Rattle.sfs.specs.Reply.{heard, responded}
+use Rattle.sfs.specs.Reply.{heard, Effect, effect}
 use Rattle.sfs.specs.Schedule.{Schedule, cluster_of}
 
 -- a datagram that came to a node, and how many changes stood before it
@@ -65,9 +64,9 @@ come_from g book (Some e) = if may_come g book e then Some e else None
 unfoldable pub next_event : Schedule → Book → Option Event
 next_event schedule book = option_and_then (λ g. if nat_lt book.lines MAX_LINES then option_and_then (come_from g book) (slice_get schedule book.lines) else None) (cluster_of schedule)
 
--- what an arrival's call is answered in a tree
-abbrev pub response : Book → ℕ → Tree → Option Responded
-response book arrival t = option_and_then (λ a. option_map (λ request. responded t request arrival a.moment) (heard a.bytes)) (numbered book.arrivals arrival)
+-- what an arrival is answered in a tree
+abbrev pub response : Book → ℕ → Tree → Option Effect
+response book arrival t = option_and_then (λ a. option_and_then (λ request. effect t request arrival a.moment) (heard a.bytes)) (numbered book.arrivals arrival)
 
 -- one more arrival
 abbrev pub with_arrival : Book → Option Event → Book
@@ -81,9 +80,9 @@ with_arrival book (Some (event.Arrive node sec usec bytes)) =
 with_arrival book (Some event.End) = book
 
 -- one more change
-abbrev pub with_point : Book → ℕ → Option Responded → Book
+abbrev pub with_point : Book → ℕ → Option Effect → Book
 with_point book arrival None = book
-with_point book arrival (Some r) = record book { points = book.points ++ arrival ∷ []; trees = book.trees ++ r.tree ∷ [] }
+with_point book arrival (Some e) = record book { points = book.points ++ arrival ∷ []; trees = book.trees ++ e.tree ∷ [] }
 
 -- one more line
 unfoldable pub noted : Schedule → Book → Line → Book

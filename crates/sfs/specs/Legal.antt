@@ -2,13 +2,16 @@
 use Rattle.std.specs.Prelude.{◌≡◌, ◌≢◌, ℕ, ◌+◌, ◌-◌, ◌≤◌, false, List, [], ◌∷◌, ◌++◌, length, slice_get, Contains, Option, Some, None}
 use Rattle.std.specs.List.{flat_map}
 use Rattle.fs_tree.specs.declared.tree.Tree.{Tree}
-use Rattle.fs_tree.specs.Respond.{Responded}
+use Rattle.schedule_text.specs.declared.drop_why.DropWhy.{DropWhy}
+use Rattle.schedule_text.specs.declared.drop_why.DropWhy.TheVariants as why
 use Rattle.schedule_text.specs.declared.event.Event.TheVariants as event
 use Rattle.schedule_text.specs.declared.line.Line.{Line}
 use Rattle.schedule_text.specs.declared.line.Line.TheVariants as line
 use Rattle.schedule_text.specs.Grammar.{spelling_of_line}
 use Rattle.sfs.specs.Schedule.{Schedule}
-use Rattle.sfs.specs.Reply.{Request, heard, responded, reply}
+use Rattle.sfs.specs.declared.request.Request.{Request}
+use Rattle.sfs.specs.declared.request.Request.TheVariants as request
+use Rattle.sfs.specs.Reply.{heard, Effect, effect}
 use Rattle.sfs.specs.Book.{Book, Arrival, numbered, point_of, last_tree, opened, next_event, response, noted}
 
 -- no line came that is the last, and every arrival so far has its reply or was dropped
@@ -40,18 +43,17 @@ pub record Changes (book : Book) (point arrival : ℕ) (made : Option (ℕ × �
   pub first : point_of book arrival ≡ None
   pub tree : Tree
   pub last : last_tree book ≡ Some tree
-  pub r : Responded
-  pub answered : response book arrival tree ≡ Some r
-  pub differs : r.tree ≢ tree
-  pub made_is : made ≡ r.made
+  pub e : Effect
+  pub answered : response book arrival tree ≡ Some e
+  pub differs : e.tree ≢ tree
+  pub made_is : made ≡ e.made
 
 -- the reply to an arrival that made this change is that in the tree before the change; one that made none is answered in
 -- the tree after a number of changes that is not below the number before it came nor above the number so far, and its
 -- call leaves that tree as it is
-abbrev pub HoldsAt : Book → Arrival → Request → ℕ → ℕ → Tree → Option ℕ → Type 0
-HoldsAt book a request arrival at t (Some point) = (at ≡ point) × (slice_get book.trees (point - 1) ≡ Some t)
-HoldsAt book a request arrival at t None =
-    (a.points ≤ at) × (at ≤ length book.points) × (slice_get book.trees at ≡ Some t) × ((responded t request arrival a.moment).tree ≡ t)
+abbrev pub HoldsAt : Book → Arrival → Effect → ℕ → Tree → Option ℕ → Type 0
+HoldsAt book a e at t (Some point) = (at ≡ point) × (slice_get book.trees (point - 1) ≡ Some t)
+HoldsAt book a e at t None = (a.points ≤ at) × (at ≤ length book.points) × (slice_get book.trees at ≡ Some t) × (e.tree ≡ t)
 
 -- `reply A at p HEX`: the bytes are those of the file system after the prefix that the reply names
 pub record Replies (book : Book) (arrival at : ℕ) (bytes : List ℕ) : Type 0 where
@@ -60,8 +62,17 @@ pub record Replies (book : Book) (arrival at : ℕ) (bytes : List ℕ) : Type 0 
   pub request : Request
   pub heard_as : heard a.bytes ≡ Some request
   pub tree : Tree
-  pub holds : HoldsAt book a request arrival at tree (point_of book arrival)
-  pub is : bytes ≡ reply tree request arrival a.moment
+  pub e : Effect
+  pub answered : effect tree request arrival a.moment ≡ Some e
+  pub holds : HoldsAt book a e at tree (point_of book arrival)
+  pub is : bytes ≡ e.reply
+
+-- `dropped A silent`: what came is silence
+pub record Drops (book : Book) (arrival : ℕ) (reason : DropWhy) : Type 0 where
+  pub a : Arrival
+  pub running : IsRunning book arrival a
+  pub heard_as : heard a.bytes ≡ Some request.Silent
+  pub is : reason ≡ why.Silent
 
 -- `refused N`: line N is the next of the schedule, and no event that may come
 pub record Refuses (schedule : Schedule) (book : Book) (number : ℕ) : Type 0 where
@@ -74,12 +85,12 @@ pub record Ends (schedule : Schedule) (book : Book) : Type 0 where
   pub rest : IsAtRest book
   pub event : next_event schedule book ≡ Some event.End
 
--- a line may come after those that the book tells. No call that is heard so far is dropped
+-- a line may come after those that the book tells
 abbrev pub IsAllowed : Schedule → Book → Line → Type 0
 IsAllowed schedule book (line.DoArrive arrival node) = Arrives schedule book arrival node
 IsAllowed schedule book (line.Point point arrival made) = Changes book point arrival made
 IsAllowed schedule book (line.Reply arrival at bytes) = Replies book arrival at bytes
-IsAllowed schedule book (line.Dropped arrival why) = ⊥
+IsAllowed schedule book (line.Dropped arrival reason) = Drops book arrival reason
 IsAllowed schedule book (line.Refused number) = Refuses schedule book number
 IsAllowed schedule book line.End = Ends schedule book
 

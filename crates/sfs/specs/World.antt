@@ -1,9 +1,10 @@
 -- What the plain world is for a transcript, and what one event makes of it.
-use Rattle.std.specs.Prelude.{◌≡◌, ◌+◌, ◌≤◌, Bool, true, false, List, length, All, count_by, Option, Some, None, Result, Ok, Err}
+use Rattle.std.specs.Prelude.{◌≡◌, ℕ, ◌+◌, ◌≤◌, Bool, true, false, List, length, All, count_by, Option, Some, None, Result, Ok, Err}
 use Rattle.std.specs.List.{AllByRecursion}
 use Rattle.sfs_base.specs.declared.no_memory.NoMemory.{NoMemory}
 use Rattle.fs_tree.specs.Good.{IsGood}
 use Rattle.fs_tree.specs.Fresh.{fresh}
+use Rattle.schedule_text.specs.declared.drop_why.DropWhy.TheVariants as why
 use Rattle.schedule_text.specs.declared.event.Event.{Event}
 use Rattle.schedule_text.specs.declared.event.Event.TheVariants as event
 use Rattle.schedule_text.specs.declared.line.Line.{Line}
@@ -55,6 +56,11 @@ abbrev pub Tells : World → World → Event → Step → Type 0
 Tells old new e (On lines) = ((behind : Bool) → reached old.tree.geometry e behind ≡ behind) × (new.arrivals ≡ old.arrivals + 1) × (count_by is_do lines ≡ 1)
 Tells old new e Ended = (behind : Bool) → reached old.tree.geometry e behind ≡ true
 Tells old new e Refused = (behind : Bool) → reached old.tree.geometry e behind ≡ false
+
+-- the line that ends an arrival: its reply, or that it gets none
+abbrev pub closing : ℕ → ℕ → Option (List ℕ) → Line
+closing arrival at (Some bytes) = line.Reply arrival at bytes
+closing arrival at None = line.Dropped arrival why.Silent
 
 -- the lines of a step have spellings
 abbrev pub HasSpellings : Step → Type 0

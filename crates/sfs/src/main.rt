@@ -15,6 +15,7 @@ mod line_reader;
 mod output;
 mod replay;
 mod reply;
+mod request;
 mod run;
 mod schedule_reader;
 mod standard_input;

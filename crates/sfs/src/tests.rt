@@ -3,6 +3,7 @@ use crate::line_reader::LineReader;
 use crate::output::write_whole;
 use crate::replay::{Replay, replay_schedule};
 use crate::reply::reply_to;
+use crate::request::Request;
 use crate::run::run;
 use crate::schedule_reader::ScheduleReader;
 use crate::standard_input::StandardInput;
@@ -41,6 +42,33 @@ end
 /// The bytes of the transcript up to the end of the replies to the first and the second arrival.
 const AFTER_ARRIVALS: [usize; 2] = [220, 440];
 
+/// A schedule with a call of LOOKUP, which is not built.
+const NOT_BUILT: &[u8] = b"cluster 1 1 1 1
+arrive 0 0 0 000000090000000000000002000186a300000002000000040000000000000000000000000000000053465331000000010000000100000000000000000000000000000000000000000000000161000000
+end
+";
+
+/// Messages that the file system is not needed for, and one that is silence.
+const MESSAGES: &[u8] = b"cluster 2 1 1 1
+arrive 0 0 0 00
+arrive 1 0 0 000000090000000000000002000186a3000000020000000000000000000000000000000000000000
+arrive 0 0 0 000000090000000000000003000186a30000000200000000
+arrive 1 0 0 000000090000000000000002000186a300000002000000000000000000000191
+end
+";
+
+/// The transcript: silence, the empty result of NULL, another version of RPC, a credential that is too long.
+const REPLIES: &[u8] = b"do arrive 1 0
+dropped 1 silent
+do arrive 2 1
+reply 2 at 0 000000090000000100000000000000000000000000000000
+do arrive 3 0
+reply 3 at 0 000000090000000100000001000000000000000200000002
+do arrive 4 1
+reply 4 at 0 0000000900000001000000010000000100000001
+end
+";
+
 fn source(alloc: Global, text: &[u8], failing: &[u64]) -> Result<PlanSource, Fail> {
     let bytes = Bytes::from_slice(alloc, text)?;
     Ok(PlanSource::new(bytes, Calls::from_slice(alloc, failing)?))
@@ -48,6 +76,15 @@ fn source(alloc: Global, text: &[u8], failing: &[u64]) -> Result<PlanSource, Fai
 
 fn sink(alloc: Global, failing: &[u64]) -> Result<PlanSink, Fail> {
     Ok(PlanSink::new(alloc, ROOM, Calls::from_slice(alloc, failing)?)?)
+}
+
+// A message of these numbers.
+fn message(alloc: Global, numbers: &[u32]) -> Result<Vec<u8>, Fail> {
+    let mut bytes = Vec::new(alloc);
+    for number in numbers {
+        bytes.extend_from_slice(&number.to_be_bytes())?;
+    }
+    Ok(bytes)
 }
 
 fn words(alloc: Global, texts: &[&str]) -> Result<Vec<String>, Fail> {
@@ -73,6 +110,128 @@ fn a_schedule_is_replayed(rt: HostRuntime) -> Result<(), Fail> {
 }
 
 #[test]
+fn messages_are_answered_without_the_file_system(rt: HostRuntime) -> Result<(), Fail> {
+    let words = words(rt.alloc(), &["replay"])?;
+    let mut input = source(rt.alloc(), MESSAGES, &[])?;
+    let mut output = sink(rt.alloc(), &[])?;
+    let status = run(rt.alloc(), words.as_slice(), &mut input, &mut output);
+    assert_eq!(rt; status, Status::Done);
+    assert_eq!(rt; output.bytes(), REPLIES);
+    Ok(())
+}
+
+#[test]
+fn requests_are_told_apart(rt: HostRuntime) -> Result<(), Fail> {
+    let silent = Request::read(rt.alloc(), b"no call")?;
+    assert!(rt; matches!(silent, Some(Request::Silent)));
+    Ok(())
+}
+
+#[test]
+fn the_greatest_length_is_refused_everywhere(rt: HostRuntime) -> Result<(), Fail> {
+    let cases: [(&str, &[u32], &[u32]); 17] = [
+        (
+            "the credential",
+            &[9, 0, 2, 100_003, 2, 0, 0, u32::MAX],
+            &[9, 1, 1, 1, 1],
+        ),
+        (
+            "the machine's name",
+            &[9, 0, 2, 100_003, 2, 0, 1, 8, 0, u32::MAX, 0, 0],
+            &[9, 1, 1, 1, 1],
+        ),
+        (
+            "the further groups",
+            &[9, 0, 2, 100_003, 2, 0, 1, 20, 0, 0, 0, 0, u32::MAX, 0, 0],
+            &[9, 1, 1, 1, 1],
+        ),
+        (
+            "the verifier",
+            &[9, 0, 2, 100_003, 2, 0, 0, 0, 0, u32::MAX],
+            &[9, 1, 1, 1, 3],
+        ),
+        (
+            "the name of LOOKUP",
+            &[9, 0, 2, 100_003, 2, 4, 0, 0, 0, 0, 1, 2, 3, 4, 5, 6, 7, 8, u32::MAX],
+            &[9, 1, 0, 0, 0, 4],
+        ),
+        (
+            "the data of WRITE",
+            &[9, 0, 2, 100_003, 2, 8, 0, 0, 0, 0, 1, 2, 3, 4, 5, 6, 7, 8, 0, 0, 0, u32::MAX],
+            &[9, 1, 0, 0, 0, 4],
+        ),
+        (
+            "the name of CREATE",
+            &[9, 0, 2, 100_003, 2, 9, 0, 0, 0, 0, 1, 2, 3, 4, 5, 6, 7, 8, u32::MAX],
+            &[9, 1, 0, 0, 0, 4],
+        ),
+        (
+            "the name of REMOVE",
+            &[9, 0, 2, 100_003, 2, 10, 0, 0, 0, 0, 1, 2, 3, 4, 5, 6, 7, 8, u32::MAX],
+            &[9, 1, 0, 0, 0, 4],
+        ),
+        (
+            "the first name of RENAME",
+            &[9, 0, 2, 100_003, 2, 11, 0, 0, 0, 0, 1, 2, 3, 4, 5, 6, 7, 8, u32::MAX],
+            &[9, 1, 0, 0, 0, 4],
+        ),
+        (
+            "the second name of RENAME",
+            &[9, 0, 2, 100_003, 2, 11, 0, 0, 0, 0, 1, 2, 3, 4, 5, 6, 7, 8, 0, 1, 2, 3, 4, 5, 6, 7, 8, u32::MAX],
+            &[9, 1, 0, 0, 0, 4],
+        ),
+        (
+            "the name of LINK",
+            &[9, 0, 2, 100_003, 2, 12, 0, 0, 0, 0, 1, 2, 3, 4, 5, 6, 7, 8, 1, 2, 3, 4, 5, 6, 7, 8, u32::MAX],
+            &[9, 1, 0, 0, 0, 4],
+        ),
+        (
+            "the name of SYMLINK",
+            &[9, 0, 2, 100_003, 2, 13, 0, 0, 0, 0, 1, 2, 3, 4, 5, 6, 7, 8, u32::MAX],
+            &[9, 1, 0, 0, 0, 4],
+        ),
+        (
+            "the path of SYMLINK",
+            &[9, 0, 2, 100_003, 2, 13, 0, 0, 0, 0, 1, 2, 3, 4, 5, 6, 7, 8, 0, u32::MAX],
+            &[9, 1, 0, 0, 0, 4],
+        ),
+        (
+            "the name of MKDIR",
+            &[9, 0, 2, 100_003, 2, 14, 0, 0, 0, 0, 1, 2, 3, 4, 5, 6, 7, 8, u32::MAX],
+            &[9, 1, 0, 0, 0, 4],
+        ),
+        (
+            "the name of RMDIR",
+            &[9, 0, 2, 100_003, 2, 15, 0, 0, 0, 0, 1, 2, 3, 4, 5, 6, 7, 8, u32::MAX],
+            &[9, 1, 0, 0, 0, 4],
+        ),
+        (
+            "the path of MNT",
+            &[9, 0, 2, 100_005, 1, 1, 0, 0, 0, 0, u32::MAX],
+            &[9, 1, 0, 0, 0, 4],
+        ),
+        (
+            "the path of UMNT",
+            &[9, 0, 2, 100_005, 1, 3, 0, 0, 0, 0, u32::MAX],
+            &[9, 1, 0, 0, 0, 4],
+        ),
+    ];
+    for (field, numbers, reply) in cases {
+        let bytes = message(rt.alloc(), numbers)?;
+        let wanted = message(rt.alloc(), reply)?;
+        match Request::read(rt.alloc(), &bytes)? {
+            Some(Request::Told(told)) => assert_eq!(rt;
+                told.as_slice(),
+                wanted.as_slice(),
+                "at {field}"
+            ),
+            _ => assert!(rt; false, "at {field}"),
+        }
+    }
+    Ok(())
+}
+
+#[test]
 fn a_schedule_is_refused_by_the_number_of_its_line(rt: HostRuntime) -> Result<(), Fail> {
     let words = words(rt.alloc(), &["replay"])?;
     let refused = [
@@ -80,7 +239,7 @@ fn a_schedule_is_refused_by_the_number_of_its_line(rt: HostRuntime) -> Result<()
         (b"cluster 0 1 1 1\nend\n", b"refused 1\n"),
         (b"cluster 1 1 1 1\n", b"refused 2\n"),
         (b"cluster 1 1 1 1\ncluster 1 1 1 1\nend\n", b"refused 2\n"),
-        (b"cluster 1 1 1 1\narrive 0 0 0 00\nend\n", b"refused 2\n"),
+        (NOT_BUILT, b"refused 2\n"),
     ];
     for (text, transcript) in refused {
         let mut input = source(rt.alloc(), text, &[])?;
@@ -265,7 +424,7 @@ fn lines_and_bytes_are_written_whole(rt: HostRuntime) -> Result<(), Fail> {
 
 #[test]
 fn a_fault_is_replied_as_its_number(rt: HostRuntime) -> Result<(), Fail> {
-    let reply = reply_to(rt.alloc(), 5, &Answer::Fault(Answer::STALE))?;
+    let reply = reply_to(rt.alloc(), 5, &Answer::Fault(70))?;
     let mut expected = [0u8; 28];
     expected[3] = 5;
     expected[7] = 1;

@@ -3,20 +3,17 @@ ghost use Rattle.schedule_text.specs.declared.event.Event.TheVariants as event;
 ghost use Rattle.schedule_text.specs.declared.limits.TheConstants.{MAX_LINES};
 ghost use Rattle.sfs.specs.Schedule.{Schedule};
 ghost use Rattle.fs_tree.specs.Good.{IsGood};
-ghost use Rattle.schedule_text.specs.Words.{IsDatagram};
-ghost use Rattle.sfs.specs.Reply.{root_request, responded, reply};
+ghost use Rattle.sfs.specs.Reply.{effect, reply_in, IsSized, IsSizedReply, IsBuilt};
+ghost use Rattle.sfs.specs.World.{closing};
 ghost use Rattle.sfs.specs.Book.{Book};
 
 use crate::reply::reply_to;
+use crate::request::Request;
 use crate::step::{Lines, Step};
-use fs_tree::{Call, Cred, Geometry, Handle, ROOT, Stamp, Tree};
-use rpc_msg::root_getattr;
-use schedule_text::{Event, Line};
+use fs_tree::{Geometry, Stamp, Tree};
+use schedule_text::{DropWhy, Event, Line};
 use sfs_base::{Bytes, NoMemory, Seq};
 use std::alloc::Global;
-
-/// The generation of the root.
-const ROOT_GENERATION: u32 = 1;
 
 /// The plain world: one tree that all nodes export, and how many arrivals and changes there were.
 #[derive(Debug, Drop)]
@@ -100,34 +97,51 @@ impl World {
         if node >= self.tree.geometry.nodes || self.arrivals == u32::MAX {
             return Ok(Step::Refused);
         }
-        let Some(xid) = root_getattr(bytes.as_slice()) else {
+        let Some(request) = Request::read(alloc, bytes.as_slice())? else {
             return Ok(Step::Refused);
         };
-        let reply = answer_root(alloc, &mut self.tree, xid, moment)?;
+        let reply = answer(alloc, &mut self.tree, request, moment)?;
         let arrival = self.arrivals + 1;
         let mut lines: Lines = Seq::new(alloc);
         lines.push(Line::DoArrive { arrival, node })?;
-        lines.push(Line::Reply {
-            arrival,
-            at: self.points,
-            bytes: reply,
-        })?;
+        lines.push(closing(arrival, self.points, reply))?;
         self.arrivals = arrival;
         Ok(Step::On(lines))
     }
 }
 
-// The reply to GETATTR of the root, which leaves the tree as it is.
-fn answer_root(alloc: Global, tree: &mut Tree, xid: u32, moment: Stamp) -> Result<Bytes, NoMemory>
-    ensures exact { (arrival : ℕ) → IsGood tree.old → IfOk result (λ bytes. bytes ≡ reply tree.old (root_request xid) arrival moment) }
-    ensures left { (arrival : ℕ) → IsGood tree.old → OnOk result (tree.new ≡ (responded tree.old (root_request xid) arrival moment).tree) }
-    ensures good { IsGood tree.old → IsGood tree.new }
-    ensures sized { IfOk result IsDatagram }
+// The line that ends an arrival: its reply, or that it gets none.
+fn closing(arrival: u32, at: u64, reply: Option<Bytes>) -> Line
+    ensures { result ≡ closing arrival at reply }
 {
-    let call = Call::GetAttr {
-        file: Handle::new(ROOT, ROOT_GENERATION),
-    };
-    let cred = Cred::nobody(alloc);
-    let answer = tree.apply(&call, &cred, moment, None)?;
-    reply_to(alloc, xid, &answer)
+    match reply {
+        Some(bytes) => Line::Reply { arrival, at, bytes },
+        None => Line::Dropped {
+            arrival,
+            why: DropWhy::Silent,
+        },
+    }
+}
+
+// The reply to a request, if it gets one. So far no request changes the tree.
+fn answer(
+    alloc: Global,
+    tree: &mut Tree,
+    request: Request,
+    moment: Stamp,
+) -> Result<Option<Bytes>, NoMemory>
+    requires { IsBuilt (Some request) }
+    ensures exact { (arrival : ℕ) → IsGood tree.old → IfOk result (λ reply. reply ≡ reply_in (effect tree.old request arrival moment)) }
+    ensures left { IsGood tree.old → OnOk result (tree.new ≡ tree.old) }
+    ensures good { IsGood tree.old → IsGood tree.new }
+    ensures sized { IsSized (Some request) → IfOk result IsSizedReply }
+{
+    match request {
+        Request::Told(reply) => Ok(Some(reply)),
+        Request::Silent => Ok(None),
+        Request::Asked { xid, call, cred } => {
+            let answer = tree.apply(&call, &cred, moment, None)?;
+            Ok(Some(reply_to(alloc, xid, &answer)?))
+        }
+    }
 }

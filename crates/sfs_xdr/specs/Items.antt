@@ -1,10 +1,15 @@
 -- How XDR spells its items (RFC 1014, section 3).
 use Rattle.std.specs.Prelude.{◌≡◌, ℕ, ◌-◌, ◌%◌, Bool, true, false, List, ◌++◌, length, replicate}
+use Rattle.std.specs.List.{flat_map}
 use Rattle.std.specs.Int.{w32, to_be_bytes}
 
 -- a number below 2^32: four bytes, the highest first
 abbrev pub word : ℕ → List ℕ
 word n = to_be_bytes w32 n
+
+-- numbers, one behind the other
+abbrev pub words : List ℕ → List ℕ
+words numbers = flat_map word numbers
 
 -- a boolean: the number 0 or 1
 abbrev pub boolean : Bool → List ℕ

@@ -7,18 +7,30 @@
 //! the contract of the laws.
 #![tactic(auto)]
 
+mod arg_fault;
+mod codec;
+mod counted;
+mod item_fault;
 mod laws;
+mod numbers;
 mod padding;
 mod reader;
+mod text;
 mod writer;
 mod xdr_fault;
 
+pub use arg_fault::ArgFault;
+pub use codec::Codec;
+pub use counted::{Counted, read_many, write_many};
+pub use item_fault::ItemFault;
 pub use laws::{
     boolean_is_exact, opaque_is_exact, opaque_max_is_exact, word_is_exact,
     writers_are_in_the_grammar,
 };
 pub use reader::Reader;
 pub use sfs_base::{Bytes, NoMemory};
+pub use numbers::write_words;
+pub use text::Text;
 pub use writer::Writer;
 pub use xdr_fault::XdrFault;
 

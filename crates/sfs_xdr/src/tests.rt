@@ -1,4 +1,5 @@
 use super::*;
+use sfs_base::Seq;
 use std::test::*;
 
 #[test]
@@ -83,4 +84,53 @@ fn faults_are_printed_in_words(rt: HostRuntime) -> Result<(), Fail> {
         assert_eq!(rt; format!(in rt.alloc(); "{fault}")?.as_str(), words);
     }
     Ok(())
+}
+
+// Three numbers at most, behind their number.
+type Three = Counted<u32, 3>;
+
+#[test]
+fn values_are_written_and_read_again(rt: HostRuntime) -> Result<(), Fail> {
+    let name = Bytes::from_slice(rt.alloc(), b"ab")?;
+    let numbers = Seq::from_slice(rt.alloc(), &[7, 8])?;
+    let mut writer = Writer::new(rt.alloc());
+    u32::write(&9, &mut writer)?;
+    bool::write(&true, &mut writer)?;
+    Text::<2>::write(&name, &mut writer)?;
+    Three::write(&numbers, &mut writer)?;
+    write_words(&mut writer, &[5, 6])?;
+    write_many::<bool>(&[false], &mut writer)?;
+    let bytes = writer.finish();
+    assert_eq!(rt;
+        bytes.as_slice(),
+        [
+            0, 0, 0, 9, 0, 0, 0, 1, 0, 0, 0, 2, 97, 98, 0, 0, 0, 0, 0, 2, 0, 0, 0, 7, 0, 0, 0, 8,
+            0, 0, 0, 5, 0, 0, 0, 6, 0, 0, 0, 0
+        ]
+        .as_slice()
+    );
+    let mut reader = Reader::new(&bytes);
+    assert_eq!(rt; u32::read(rt.alloc(), &mut reader)?, 9);
+    assert_eq!(rt; bool::read(rt.alloc(), &mut reader)?, true);
+    assert!(rt; Text::<2>::read(rt.alloc(), &mut reader)? == name);
+    assert!(rt; Three::read(rt.alloc(), &mut reader)? == numbers);
+    let words: Seq<u32> = read_many::<u32>(rt.alloc(), &mut reader, 2)?;
+    assert_eq!(rt; words.as_slice(), [5, 6].as_slice());
+    assert_eq!(rt; bool::read(rt.alloc(), &mut reader)?, false);
+    assert_eq!(rt; reader.rest().len(), 0);
+    Ok(())
+}
+
+#[test]
+fn what_spells_no_value_is_malformed(rt: HostRuntime) {
+    let mut reader = Reader::new(&[0, 0, 0]);
+    assert_eq!(rt; u32::read(rt.alloc(), &mut reader), Err(ItemFault::Malformed));
+    let mut reader = Reader::new(&[0, 0, 0, 2]);
+    assert_eq!(rt; bool::read(rt.alloc(), &mut reader), Err(ItemFault::Malformed));
+    let mut reader = Reader::new(&[0, 0, 0, 3, 1, 2, 3, 0]);
+    assert!(rt; Text::<2>::read(rt.alloc(), &mut reader).is_err());
+    for count in [[0, 0, 0, 4], [255, 255, 255, 255], [0, 0, 0, 2]] {
+        let mut reader = Reader::new(&count);
+        assert!(rt; Three::read(rt.alloc(), &mut reader).is_err(), "with {count:?}");
+    }
 }

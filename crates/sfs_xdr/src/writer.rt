@@ -50,7 +50,7 @@ impl Writer {
         self.u32(if value { 1 } else { 0 })
     }
 
-    #[tactic(auto, using(crate::proofs::ItemLemmas::opaque_in_two))]
+    #[tactic(auto, using(crate::specs::ItemLemmas::opaque_in_two))]
     /// Bytes of a length that the reader knows, and zeros up to a multiple of four (RFC 1014, section 3.9).
     pub fn opaque(&mut self, bytes: &[u8]) -> Result<(), NoMemory>
         ensures ok { OnOk result (self.new ≡ self.old ++ opaque bytes.now) }

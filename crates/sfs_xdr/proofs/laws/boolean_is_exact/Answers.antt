@@ -1,4 +1,4 @@
-use Rattle.sfs_xdr.proofs.ItemLemmas.{boolean_exact}
+use Rattle.sfs_xdr.specs.ItemLemmas.{boolean_exact}
 use Rattle.sfs_xdr.proofs.laws.boolean_is_exact.Goals as goal
 
 pub returns : goal.returns

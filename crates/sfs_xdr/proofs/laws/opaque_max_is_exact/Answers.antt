@@ -1,4 +1,4 @@
-use Rattle.sfs_xdr.proofs.ItemLemmas.{opaque_max_exact}
+use Rattle.sfs_xdr.specs.ItemLemmas.{opaque_max_exact}
 use Rattle.sfs_xdr.proofs.laws.opaque_max_is_exact.Goals as goal
 
 pub returns : goal.returns

@@ -1,10 +1,9 @@
 use Rattle.std.proofs.Common.{◌≡◌, ◌+◌, List, [], ◌∷◌, ◌++◌, Some, None, sym, ap, subst, refl, ◌∙◌, arith}
-use Rattle.std.specs.Prelude.{option_map}
 use Rattle.schedule_text.specs.declared.event.Event.TheVariants as event
 use Rattle.schedule_text.specs.declared.line.Line.{Line}
 use Rattle.schedule_text.specs.declared.line.Line.TheVariants as line
-use Rattle.sfs.specs.Reply.{heard, root_request}
-use Rattle.sfs.specs.World.{GoesOn}
+use Rattle.sfs.specs.Reply.{heard, IsBuilt}
+use Rattle.sfs.specs.World.{GoesOn, closing}
 use Rattle.sfs.proofs.ReplyLemmas.{tree_stays}
 use Rattle.sfs.proofs.EventLemmas.{not_come, no_node, no_number, not_heard, goes_on}
 use Rattle.sfs.proofs.world.World.arrive.Goals as goal
@@ -23,30 +22,30 @@ returns-then-node-self-clause-step c schedule book stands within next =
 pub returns-in_default-clause-step : goal.returns-in_default-clause-step
 returns-in_default-clause-step c schedule book stands within next =
     let none : heard c.args.bytes.now ≡ None =
-    ap (λ bytes. heard bytes) (sym c.as_slice.ensures.value) ∙ ap (option_map root_request) (sym c.root_getattr.ensures.exact ∙ c.in_default.is) in
+    ap (λ bytes. heard bytes) (sym c.as_slice.ensures.value) ∙ sym ((c.in_ok-request.ensures {u = tt}).exact) ∙ c.in_default.is in
     not_come schedule book c.args.self.now (event.Arrive c.args.node c.args.moment.sec c.args.moment.usec c.args.bytes.now) stands within next
     (not_heard c.args.self.now.tree.geometry book c.args.node c.args.moment.sec c.args.moment.usec c.args.bytes.now none)
 
 pub returns-clause-step : goal.returns-clause-step
 returns-clause-step c schedule book stands within next =
-    let some : heard c.args.bytes.now ≡ Some (root_request c.in-Some.xid) =
-    ap (λ bytes. heard bytes) (sym c.as_slice.ensures.value) ∙ ap (option_map root_request) (sym c.root_getattr.ensures.exact ∙ c.in-Some.is) in
+    let some : heard c.args.bytes.now ≡ Some c.in-Some.request =
+    ap (λ bytes. heard bytes) (sym c.as_slice.ensures.value) ∙ sym ((c.in_ok-request.ensures {u = tt}).exact) ∙ c.in-Some.is in
     let number = c.args.self.now.arrivals + 1 in
     let first = line.DoArrive number c.args.node in
-    let second = line.Reply number c.args.self.now.points c.in_ok-reply.reply in
+    let second = closing number c.args.self.now.points c.in_ok-reply.reply in
     let lines : c.push-2.new.self ≡ first ∷ second ∷ [] =
-    (c.in_ok-push-2.ensures {u = tt}).ok ∙ ap (λ (ls : List Line). ls ++ second ∷ []) ((c.in_ok-push.ensures {u = tt}).ok ∙ ap (λ (ls : List Line). ls ++ first ∷ []) c.new-lines.ensures) in
+    (c.in_ok-push-2.ensures {u = tt}).ok ∙ ap (λ (ls : List Line). ls ++ c.closing.result ∷ []) ((c.in_ok-push.ensures {u = tt}).ok ∙ ap (λ (ls : List Line). ls ++ first ∷ []) c.new-lines.ensures)
+    ∙ ap (λ (l : Line). first ∷ l ∷ []) c.closing.ensures in
     let answered = c.in_ok-reply.ensures {u = tt} in
-    let stays = tree_stays c.args.self.now.tree c.in-Some.xid number c.args.moment in
     subst (GoesOn schedule book _) (sym lines)
-    (goes_on schedule book c.args.self.now (record { tree = c.answer_root.new.tree; arrivals = number; points = c.args.self.now.points }) c.args.node c.args.moment c.args.bytes.now c.in_ok-reply.reply stands within next (record {
+    (goes_on schedule book c.args.self.now (record { tree = c.answer.new.tree; arrivals = number; points = c.args.self.now.points }) c.args.node c.args.moment c.args.bytes.now c.in_ok-reply.reply stands within next (record {
       there = c.if-node-self.false;
       few = omega arith;
-      request = root_request c.in-Some.xid;
+      request = c.in-Some.request;
       is_heard = some;
       reply_is = answered.exact number stands.good;
-      unchanged = stays;
-      tree = answered.left number stands.good ∙ stays;
+      unchanged = tree_stays c.args.self.now.tree c.in-Some.request number c.args.moment (subst IsBuilt c.in-Some.is ((c.in_ok-request.ensures {u = tt}).built));
+      tree = answered.left stands.good;
       arrivals = refl;
       points = refl;
     }))

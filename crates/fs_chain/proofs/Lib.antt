@@ -1,0 +1,2 @@
+pub mod ReferencesLemmas
+pub mod ChainLemmas

@@ -1,0 +1,4 @@
+pub use Rattle.fs_layout.specs.Words
+pub use Rattle.fs_layout.specs.References
+pub mod Chains
+pub mod Laws

@@ -1,0 +1,85 @@
+use super::*;
+use std::test::*;
+
+// A block whose references are the first and the last block that there can be.
+fn sample() -> ChainBlock {
+    let mut references = [None; REFERENCES_PER_CHAIN];
+    references[0] = Some(Reference {
+        memory: 0,
+        block: 0,
+    });
+    references[REFERENCES_PER_CHAIN - 1] = Some(Reference {
+        memory: 7,
+        block: u32::MAX - 1,
+    });
+    ChainBlock {
+        next: Some(Reference {
+            memory: 1,
+            block: 2,
+        }),
+        file: 0x4001,
+        index: 5,
+        references,
+    }
+}
+
+// The bytes of that block.
+fn sample_bytes() -> [u8; BLOCK_BYTES] {
+    let mut bytes = [0; BLOCK_BYTES];
+    bytes[..24].copy_from_slice(&[
+        0, 0, 0, 1, 0, 0, 0, 3, 0, 0, 0x40, 1, 0, 0, 0, 5, 0, 0, 0, 0, 0, 0, 0, 1,
+    ]);
+    bytes[4_088..].copy_from_slice(&[0, 0, 0, 7, 0xff, 0xff, 0xff, 0xff]);
+    bytes
+}
+
+#[test]
+fn a_block_is_its_header_and_its_references(rt: HostRuntime) {
+    let mut bytes = [9; BLOCK_BYTES];
+    let block = sample();
+    assert!(rt; block.is_chain());
+    write_chain(&block, &mut bytes);
+    assert_eq!(rt; bytes, sample_bytes());
+    assert_eq!(rt; read_chain(&bytes), Some(sample()));
+}
+
+#[test]
+fn a_block_without_a_word_cannot_be_written(rt: HostRuntime) {
+    let far = Some(Reference {
+        memory: 0,
+        block: u32::MAX,
+    });
+    let mut block = sample();
+    block.references[7] = far;
+    assert!(rt; !block.is_chain());
+    let mut block = sample();
+    block.next = far;
+    assert!(rt; !block.is_chain());
+}
+
+#[test]
+fn a_block_of_zeros_refers_to_nothing(rt: HostRuntime) {
+    let nothing = ChainBlock {
+        next: None,
+        file: 0,
+        index: 0,
+        references: [None; REFERENCES_PER_CHAIN],
+    };
+    assert_eq!(rt; read_chain(&[0; BLOCK_BYTES]), Some(nothing));
+}
+
+#[test]
+fn a_block_has_4096_bytes(rt: HostRuntime) {
+    assert_eq!(rt; read_chain(&sample_bytes()[1..]), None);
+    assert_eq!(rt; read_chain(&[0; BLOCK_BYTES + 1]), None);
+    assert_eq!(rt; read_chain(&[]), None);
+}
+
+#[test]
+fn a_memory_node_without_a_block_is_refused(rt: HostRuntime) {
+    for at in [3, 19, 2_051, 4_091] {
+        let mut bytes = [0; BLOCK_BYTES];
+        bytes[at] = 1;
+        assert_eq!(rt; read_chain(&bytes), None, "at {at}");
+    }
+}

@@ -1,0 +1,3 @@
+pub use Rattle.fs_layout.specs.Words
+pub mod Slots
+pub mod Laws

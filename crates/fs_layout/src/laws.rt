@@ -1,0 +1,27 @@
+//! What is spelled has one value. That a value has one spelling is plain from the definitions.
+ghost use Rattle.fs_layout.specs.Laws.{WordsHaveOneValue, ReferencesHaveOneValue, InodesHaveOneValue, HandlesHaveOneValue, SuperblocksHaveOneValue};
+
+/// No bytes spell two lists of words.
+pub fn words_have_one_value()
+    ensures { WordsHaveOneValue }
+{}
+
+/// No two words spell two references.
+pub fn references_have_one_value()
+    ensures { ReferencesHaveOneValue }
+{}
+
+/// No bytes spell two inode records.
+pub fn inodes_have_one_value()
+    ensures { InodesHaveOneValue }
+{}
+
+/// No bytes spell the handles of two files.
+pub fn handles_have_one_value()
+    ensures { HandlesHaveOneValue }
+{}
+
+/// No bytes spell two superblocks.
+pub fn superblocks_have_one_value()
+    ensures { SuperblocksHaveOneValue }
+{}

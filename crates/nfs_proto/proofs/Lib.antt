@@ -1,0 +1,5 @@
+pub mod WritingLemmas
+pub mod ArgumentLemmas
+pub mod EntryLemmas
+pub mod ArgumentLaws
+pub mod AnswerLaws

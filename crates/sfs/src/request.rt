@@ -1,0 +1,114 @@
+ghost use Rattle.std.specs.Prelude.{◌≡◌, ◌≤◌, ℕ, List, length, Some, IfOk};
+ghost use Rattle.sfs_xdr.specs.Items.{words};
+ghost use Rattle.rpc_msg.specs.Messages.{accepted, garbage_arguments};
+ghost use Rattle.sfs.specs.declared.request.Request.TheVariants as request;
+ghost use Rattle.rpc_msg.specs.Laws.{called_of};
+ghost use Rattle.sfs.specs.Reply.{heard, asked, asked_of_files, asked_to_mount, built, IsSized, IsBuilt};
+
+use fs_tree::{Call, Cred};
+use mount_proto::ArgFault;
+use nfs_proto::read_args;
+use rpc_msg::{Heard, NFS, RpcCall, read_call, write_garbage, write_reply};
+use sfs_base::{Bytes, NoMemory};
+use std::alloc::Global;
+
+/// What a datagram asks for.
+#[derive(Debug, Drop)]
+pub enum Request {
+    /// It gets this reply, whatever the files are.
+    Told(Bytes),
+    /// It gets no reply.
+    Silent,
+    /// A call of the file system, under this xid.
+    Asked { xid: u32, call: Call, cred: Cred },
+}
+
+impl Request {
+    /// What these bytes ask for; `None` where it is a call that is not built.
+    pub fn read(alloc: Global, bytes: &[u8]) -> Result<Option<Request>, NoMemory>
+        ensures exact { IfOk result (λ request. request ≡ heard bytes.now) }
+        ensures sized { IfOk result IsSized }
+        ensures built { IfOk result IsBuilt }
+    {
+        match read_call(alloc, bytes)? {
+            Heard::Call(call) => Request::of_call(alloc, call),
+            Heard::Refuse(reply) => Ok(Some(Request::Told(reply))),
+            Heard::Silent => Ok(Some(Request::Silent)),
+        }
+    }
+
+    // What a call of a procedure that is there asks for.
+    fn of_call(alloc: Global, call: RpcCall) -> Result<Option<Request>, NoMemory>
+        ensures exact { IfOk result (λ request. request ≡ asked (called_of call)) }
+        ensures sized { IfOk result IsSized }
+        ensures built { IfOk result IsBuilt }
+    {
+        if call.program == NFS {
+            Request::of_files(alloc, call)
+        } else {
+            Request::of_mount(alloc, &call)
+        }
+    }
+
+    // What a call of NFS asks for.
+    fn of_files(alloc: Global, call: RpcCall) -> Result<Option<Request>, NoMemory>
+        ensures exact { IfOk result (λ request. request ≡ asked_of_files (called_of call)) }
+        ensures sized { IfOk result IsSized }
+        ensures built { IfOk result IsBuilt }
+    {
+        match read_args(alloc, call.procedure, call.args.as_slice()) {
+            Ok(asked) => Request::of_built(alloc, call.xid, asked, call.cred),
+            Err(ArgFault::NoMemory) => Err(NoMemory),
+            Err(_) => Request::garbage(alloc, call.xid),
+        }
+    }
+
+    // What a call of the file system asks for: some do nothing, and most are not built.
+    fn of_built(
+        alloc: Global,
+        xid: u32,
+        call: Call,
+        cred: Cred,
+    ) -> Result<Option<Request>, NoMemory>
+        ensures exact { IfOk result (λ request. request ≡ built xid call cred) }
+        ensures sized { IfOk result IsSized }
+        ensures built { IfOk result IsBuilt }
+    {
+        match call {
+            Call::Null | Call::Root | Call::WriteCache => Request::told(alloc, xid, &[]),
+            Call::GetAttr { .. } => Ok(Some(Request::Asked { xid, call, cred })),
+            _ => Ok(None),
+        }
+    }
+
+    // What a call of the mount protocol asks for.
+    fn of_mount(alloc: Global, call: &RpcCall) -> Result<Option<Request>, NoMemory>
+        ensures exact { IfOk result (λ request. request ≡ asked_to_mount (called_of call.now)) }
+        ensures sized { IfOk result IsSized }
+        ensures built { IfOk result IsBuilt }
+    {
+        match mount_proto::answer(alloc, call.procedure, call.args.as_slice()) {
+            Ok(body) => Request::told(alloc, call.xid, body.as_slice()),
+            Err(ArgFault::NoMemory) => Err(NoMemory),
+            Err(_) => Request::garbage(alloc, call.xid),
+        }
+    }
+
+    // It gets the accepted reply with this result.
+    fn told(alloc: Global, xid: u32, body: &[u8]) -> Result<Option<Request>, NoMemory>
+        ensures exact { IfOk result (λ r. r ≡ Some (request.Told (accepted xid body.now))) }
+        ensures sized { (numbers : List ℕ) → length numbers ≤ 18 → body.now ≡ words numbers → IfOk result IsSized }
+        ensures built { IfOk result IsBuilt }
+    {
+        Ok(Some(Request::Told(Bytes::from(write_reply(alloc, xid, body)?))))
+    }
+
+    // Its arguments are out of form.
+    fn garbage(alloc: Global, xid: u32) -> Result<Option<Request>, NoMemory>
+        ensures exact { IfOk result (λ r. r ≡ Some (request.Told (garbage_arguments xid))) }
+        ensures sized { IfOk result IsSized }
+        ensures built { IfOk result IsBuilt }
+    {
+        Ok(Some(Request::Told(Bytes::from(write_garbage(alloc, xid)?))))
+    }
+}

@@ -1,0 +1,93 @@
+-- Tests on lists, and their elements.
+use Rattle.std.proofs.Common.{◌≡◌, ℕ, zero, suc, nat_lt, ◌==◌, Bool, true, false, cond, ◌||◌, List, [], ◌∷◌, map, filter, take, drop, ◌⊎◌, inl, inr, refl, sym, ap, ◌∙◌, subst}
+use Rattle.std.proofs.lemmas.Bool.{eqb-true, eq-eqb, or_cases, and_parts}
+use Rattle.tx_rules.specs.Mini.{In}
+use Rattle.tx_actors.specs.Tests.{is_in, all_in, overlap}
+use Rattle.tx_actors.specs.Node.{sorted_in, sorted}
+
+pub or_left : (x y : Bool) → x ≡ true → (x || y) ≡ true
+or_left x y is = ap (λ b. b || y) is
+
+pub or_right : (x y : Bool) → y ≡ true → (x || y) ≡ true
+or_right true y is = refl
+or_right false y is = is
+
+pub or_none : (x y : Bool) → (x || y) ≡ false → (x ≡ false) × (y ≡ false)
+or_none true y is = absurd cc
+or_none false y is = (refl, is)
+
+-- a test cannot both hold and fail
+pub not_two : (b : Bool) → b ≡ true → b ≡ false → ⊥
+not_two b a c = let e : true ≡ false = sym a ∙ c in cc
+
+pub is_in-In : (n : ℕ) (xs : List ℕ) → is_in n xs ≡ true → In n xs
+is_in-In n [] h = absurd cc
+is_in-In n (x ∷ xs) h = elim (or_cases (n == x) (is_in n xs) h) [ inl e ↦ inl (eqb-true n x e) | inr rest ↦ inr (is_in-In n xs rest) ]
+
+pub In-is_in : (n : ℕ) (xs : List ℕ) → In n xs → is_in n xs ≡ true
+In-is_in n [] h = absurd h
+In-is_in n (x ∷ xs) h = elim h [ inl e ↦ or_left (n == x) (is_in n xs) (eq-eqb n x e) | inr rest ↦ or_right (n == x) (is_in n xs) (In-is_in n xs rest) ]
+
+pub all_in-In : (xs ys : List ℕ) → all_in xs ys ≡ true → (n : ℕ) → In n xs → In n ys
+all_in-In [] ys h n is = absurd is
+all_in-In (x ∷ xs) ys h n is =
+    let both = and_parts (is_in x ys) (all_in xs ys) h in
+    elim is [ inl e ↦ subst (λ k. In k ys) (sym e) (is_in-In x ys both.0) | inr rest ↦ all_in-In xs ys both.1 n rest ]
+
+-- lists that do not overlap have no common element
+pub overlap-none : (xs ys : List ℕ) → overlap xs ys ≡ false → (n : ℕ) → In n xs → In n ys → ⊥
+overlap-none [] ys h n is other = is
+overlap-none (x ∷ xs) ys h n is other =
+    let both = or_none (is_in x ys) (overlap xs ys) h in
+    elim is [
+      | inl e ↦ not_two (is_in x ys) (In-is_in x ys (subst (λ k. In k ys) e other)) both.0
+      | inr rest ↦ overlap-none xs ys both.1 n rest other
+    ]
+
+-- ---- elements of changed lists
+
+module _ {A : Type 0} where
+  pub In-filter : (test : A → Bool) (x : A) (xs : List A) → In x (filter test xs) → In x xs × (test x ≡ true)
+  In-filter test x [] h = absurd h
+  In-filter test x (y ∷ xs) h = go (test y) refl (In-filter test x xs) h
+    where
+      go : (b : Bool) → test y ≡ b → (In x (filter test xs) → In x xs × (test x ≡ true)) → In x (cond b (y ∷ filter test xs) (filter test xs))
+          → ((x ≡ y) ⊎ In x xs) × (test x ≡ true)
+      go true is rest k = elim k [
+        | inl e ↦ (inl e, ap test e ∙ is)
+        | inr h ↦ (inr (rest h).0, (rest h).1)
+      ]
+      go false is rest k = (inr (rest k).0, (rest k).1)
+
+  pub In-drop : (n : ℕ) (x : A) (xs : List A) → In x (drop n xs) → In x xs
+  In-drop zero x xs h = h
+  In-drop (suc n) x [] h = h
+  In-drop (suc n) x (y ∷ xs) h = inr (In-drop n x xs h)
+
+  pub In-take : (n : ℕ) (x : A) (xs : List A) → In x (take n xs) → In x xs
+  In-take zero x xs h = absurd h
+  In-take (suc n) x [] h = h
+  In-take (suc n) x (y ∷ xs) h = elim h [ inl e ↦ inl e | inr rest ↦ inr (In-take n x xs rest) ]
+
+-- an element of a changed list is an element that was changed
+pub In-map : {A B : Type 0} (f : A → B) (y : B) (xs : List A) → In y (map f xs) → (x : A) × In x xs × (y ≡ f x)
+In-map f y [] h = absurd h
+In-map f y (x ∷ xs) h = elim h [
+  | inl e ↦ (x, inl refl, e)
+  | inr rest ↦ let it = In-map f y xs rest in (it.0, inr it.1, it.2)
+]
+
+pub In-sorted_in : (x n : ℕ) (xs : List ℕ) → In x (sorted_in n xs) → (x ≡ n) ⊎ In x xs
+In-sorted_in x n [] h = h
+In-sorted_in x n (y ∷ xs) h = go (nat_lt y n) (In-sorted_in x n xs) h
+  where
+    go : (b : Bool) → (In x (sorted_in n xs) → (x ≡ n) ⊎ In x xs) → In x (cond b (y ∷ sorted_in n xs) (n ∷ y ∷ xs)) → (x ≡ n) ⊎ ((x ≡ y) ⊎ In x xs)
+    go true rest k = elim k [
+      | inl e ↦ inr (inl e)
+      | inr h ↦ elim (rest h) [ inl e ↦ inl e | inr i ↦ inr (inr i) ]
+    ]
+    go false rest k = k
+
+pub In-sorted : (x : ℕ) (xs : List ℕ) → In x (sorted xs) → In x xs
+In-sorted x [] h = h
+In-sorted x (y ∷ xs) h = elim (In-sorted_in x y (sorted xs) h) [ inl e ↦ inl e | inr rest ↦ inr (In-sorted x xs rest) ]

@@ -1,0 +1,98 @@
+-- What holds of the actors, whatever happens to them.
+use Rattle.std.specs.Prelude.{◌≡◌, ℕ, ◌≤◌, Bool, true, List, ◌∷◌, ◌++◌, map, Some, None, ◌⊎◌, ◌↔◌}
+use Rattle.tx_rules.specs.Mini.{In, Memory, IsMini, Setting, nodes_of, IsLive, HasSeveral, IsLogged, IsReader, reads_of, Matches, flat}
+use Rattle.tx_rules.specs.Decision.{Record, Forget, Entry, At, IsGranted, IsPassed, IsOpen, IsCommitted, IsAborted}
+use Rattle.tx_rules.specs.World.{Message, Granted, Looked, World, opened, Event, Posts, IsRun, after_all}
+use Rattle.tx_rules.specs.Opening.{IsOpening}
+use Rattle.tx_actors.specs.Node.{own, view, handle, cast_as, floor_of, is_kept, is_undecided, Above, standing, replayed}
+use Rattle.tx_actors.specs.Coordinator.{Outcome, Committed, Failed}
+use Rattle.tx_actors.specs.Machine.{appending, State, Input, steps, events_of, opened_at, IsAboveKnown}
+
+-- the table of minitransactions fits what was begun
+abbrev pub IsFitting : Setting → World → Type 0
+IsFitting s w = (t : ℕ) → In t w.begun → IsLive s t → IsMini (s.mini t)
+
+-- it holds of every state that the actors reach from any opening by any inputs
+abbrev pub AlwaysReached : (Setting → State → Type 0) → Type 0
+AlwaysReached P = (s : Setting) (log : List Entry) (image : Memory) (next : ℕ → ℕ) → IsOpening s log image → IsAboveKnown s next
+    → (inputs : List Input) → IsFitting s (steps s (opened_at s log image next) inputs).world → P s (steps s (opened_at s log image next) inputs)
+
+-- every state that the actors reach is reached by a run of the rules: so all that holds of those holds of the actors
+abbrev pub StatesAreRuns : Type 0
+StatesAreRuns = (s : Setting) (log : List Entry) (image : Memory) (next : ℕ → ℕ) → IsOpening s log image → IsAboveKnown s next
+    → (inputs : List Input) → IsFitting s (steps s (opened_at s log image next) inputs).world
+    → IsRun s (opened s log image) (events_of s (opened_at s log image next) inputs)
+    × ((steps s (opened_at s log image next) inputs).world ≡ after_all s (opened s log image) (events_of s (opened_at s log image next) inputs))
+
+-- a counted vote is a participant's, and was posted
+abbrev pub IsVote : Setting → World → ℕ → ℕ × List ℕ → Type 0
+IsVote s w t v = In v.0 (nodes_of s t) × (In (Granted v.0 t v.1) w.posted ⊎ In (Looked v.0 t v.1) w.posted)
+
+-- what an outcome means: Committed has the votes of all participants, and its identifier is committed, but for one
+-- participant without a write item; another outcome has its identifier aborted, with the same exception
+abbrev pub OutcomeStands : Setting → World → Outcome → Type 0
+OutcomeStands s w (Committed t votes) =
+    In t w.begun × IsLive s t × (IsCommitted s w.log t ⊎ IsReader s t) × ((v : ℕ × List ℕ) → In v votes → IsVote s w t v)
+    × ((m : ℕ) → In m (nodes_of s t) → In m (map (λ v. v.0) votes))
+OutcomeStands s w (Failed t) = In t w.begun × IsLive s t × (IsAborted s w.log t ⊎ IsReader s t)
+
+-- every outcome means what it says
+abbrev pub OutcomesStand : Type 0
+OutcomesStand = AlwaysReached (λ s st. (outcome : Outcome) → In outcome st.outcomes → OutcomeStands s st.world outcome)
+
+-- outcomes stay
+abbrev pub OutcomesStay : Type 0
+OutcomesStay = (s : Setting) (st : State) (inputs : List Input) (outcome : Outcome) → In outcome st.outcomes → In outcome (steps s st inputs).outcomes
+
+-- what ended otherwise than committed is never committed
+abbrev pub FailedNeverCommits : Type 0
+FailedNeverCommits = AlwaysReached (λ s st. (t : ℕ) → In (Failed t) st.outcomes → ¬ IsCommitted s st.world.log t)
+
+-- the bytes of the counted votes are those of the flat memory just before the point
+abbrev pub CommittedReadsAreFlat : Type 0
+CommittedReadsAreFlat = AlwaysReached (λ s st. (t : ℕ) (votes : List (ℕ × List ℕ)) → In (Committed t votes) st.outcomes → IsLogged s t
+    → (later before : List ℕ) → st.world.points ≡ later ++ t ∷ before
+    → (v : ℕ × List ℕ) → In v votes → v.1 ≡ reads_of s t v.0 (flat s before v.0))
+
+-- those of a minitransaction of one participant without a write item are those of the flat memory at a moment of the
+-- run, at which it matched that memory
+abbrev pub LooksOfOutcomesAreFlat : Type 0
+LooksOfOutcomesAreFlat = (s : Setting) (log : List Entry) (image : Memory) (next : ℕ → ℕ) → IsOpening s log image → IsAboveKnown s next
+    → (inputs : List Input) → IsFitting s (steps s (opened_at s log image next) inputs).world
+    → (t : ℕ) (votes : List (ℕ × List ℕ)) → In (Committed t votes) (steps s (opened_at s log image next) inputs).outcomes → IsReader s t
+    → (v : ℕ × List ℕ) → In v votes
+    → (first rest : List Event) × (events_of s (opened_at s log image next) inputs ≡ first ++ Posts (Looked v.0 t v.1) ∷ rest)
+    × (v.1 ≡ reads_of s t v.0 (flat s (after_all s (opened s log image) first).points v.0))
+    × Matches s t v.0 (flat s (after_all s (opened s log image) first).points v.0)
+
+-- what a memory node appends when any posted message reaches it, it may append by the rules
+abbrev pub ReactionsAreAllowed : Type 0
+ReactionsAreAllowed = AlwaysReached (λ s st. (m : ℕ) (held : Bool) (message : Message) → In message st.world.posted
+    → IsRun s st.world (appending s st.world m (handle s m held (view st.world m) message).appends))
+
+-- the state that a memory node takes from its records says what its log says
+abbrev pub UndecidedIsOpen : Type 0
+UndecidedIsOpen = (log : List Entry) (m t : ℕ) → (is_undecided (own m log) t ≡ true) ↔ IsOpen log m t
+
+-- above the floor is what was not passed
+abbrev pub AboveIsNotPassed : Type 0
+AboveIsNotPassed = (s : Setting) (log : List Entry) (m t : ℕ) → (standing s (own m log) t ≡ Above) ↔ (¬ IsPassed s log m t)
+
+-- the floor is the greatest identifier of its coordinator that was cast, with its vote, where there is one
+abbrev pub FloorsAreGreatest : Type 0
+FloorsAreGreatest = (s : Setting) (rs : List Record) (c : ℕ)
+    → (floor_of s rs c ≡ None → (u : ℕ) (vote : Bool) → In (cast_as vote u) rs → ¬ (s.coord u ≡ c))
+    × ((t : ℕ) (vote : Bool) → floor_of s rs c ≡ Some (t, vote)
+    → In (cast_as vote t) rs × (s.coord t ≡ c) × ((u : ℕ) (other : Bool) → In (cast_as other u) rs → s.coord u ≡ c → u ≤ t))
+
+-- a record is kept exactly where it was granted, has several participants, and was not forgotten
+abbrev pub RecordsAreKept : Type 0
+RecordsAreKept = (s : Setting) (log : List Entry) (m t : ℕ)
+    → (is_kept s (own m log) t ≡ true) ↔ (IsGranted log m t × HasSeveral s t × (¬ In (At m (Forget t)) log))
+
+-- what the memory nodes hold after a run is what the records that it added make of what they held before: so a memory
+-- node that has lost all but its log and its stored image has its image again
+abbrev pub ImagesAreReplayed : Type 0
+ImagesAreReplayed = (s : Setting) (w : World) (events : List Event)
+    → (new : List Entry) × ((after_all s w events).log ≡ new ++ w.log)
+    × ((m a : ℕ) → (after_all s w events).image m a ≡ replayed s m (own m new) (w.image m) a)

@@ -1,0 +1,10 @@
+pub mod Tests
+pub mod Node
+pub mod Rules
+pub mod Coordinator
+pub mod Manager
+pub mod Machine
+pub mod Laws
+pub mod Numbers
+pub mod Sample
+pub mod Headline

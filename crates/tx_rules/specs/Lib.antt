@@ -1,0 +1,5 @@
+pub mod Mini
+pub mod Decision
+pub mod World
+pub mod Opening
+pub mod Laws
