@@ -174,6 +174,9 @@ module _ (before now : History) (base end : ℕ) (entries : List (List ℕ)) (en
       (subst (λ (n : ℕ). StandsFor (put (put before.now.content (base + n + 1) (sealed entry)) (base + n) (1 ∷ [])) base (entries ++ entry ∷ [])) (sym ends)
       (opened_stands before.now base entries entry none stands room)))
 
+  pub append_safe : now.now ≡ settled (put (put before.now.content (base + end + 1) bytes) (base + end) (1 ∷ [])) → now.now.pending ≡ []
+  append_safe last = ap (λ (s : Snapshot). s.pending) last
+
   pub append_ends : end + 5 + length entry ≡ length (log_bytes (entries ++ entry ∷ []))
   append_ends = omega (arith, length-log_bytes-more entries entry)
 

@@ -1,7 +1,6 @@
-use Rattle.std.proofs.Common.{◌≡◌, ◌+◌, ◌^◌, ◌<◌, ap, sym, ◌∙◌, length, false, rules}
+use Rattle.std.proofs.Common.{◌≡◌, ◌+◌, ◌^◌, ◌<◌, sym, ◌∙◌, length, false, rules}
 use Rattle.std.specs.Prelude.{is_err}
-use Rattle.disk_model.specs.Crash.{Snapshot}
-use Rattle.gate_log.proofs.LogLemmas.{append_leaves, append_stands, append_ends, not_err}
+use Rattle.gate_log.proofs.LogLemmas.{append_leaves, append_safe, append_stands, append_ends, not_err}
 use Rattle.gate_log.proofs.log.Log.append.Goals as goal
 
 pub returns-then-is_err-clause-any_moment : goal.returns-then-is_err-clause-any_moment
@@ -21,7 +20,8 @@ returns-clause-appended g c entries log =
     record {
       told = c.open_behind.ensures.tells log.told;
       fine = log.fine;
-      safe = ap (λ (s : Snapshot). s.pending) last;
+      safe = append_safe (g.D.Disk.history own.disk) (g.D.Disk.history c.open_behind.new.disk) own.extent.base own.extent.end entries c.args.entry.now c.deref.result.now
+          log.safe log.stands log.ends fits sealed-is last;
       stands = append_stands (g.D.Disk.history own.disk) (g.D.Disk.history c.open_behind.new.disk) own.extent.base own.extent.end entries c.args.entry.now c.deref.result.now
           log.safe log.stands log.ends fits sealed-is last;
       ends = append_ends (g.D.Disk.history own.disk) (g.D.Disk.history c.open_behind.new.disk) own.extent.base own.extent.end entries c.args.entry.now c.deref.result.now
