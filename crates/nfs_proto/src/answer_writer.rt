@@ -16,15 +16,28 @@ type Path = Text<MAX_PATH_BYTES>;
 
 type Data = Text<MAX_DATA_BYTES>;
 
+/// The most bytes of a result beside a path, data and names: a status, a handle, what is told of a file, and
+/// a length with what fills up.
+const MAX_FIXED_BYTES: usize = 112;
+
 /// A result, spelled (RFC 1094, section 2.2). Its names and path have at most 1,024 bytes and its data at
 /// most [`MAX_DATA_BYTES`], and a fault is a status other than OK.
 pub fn write_answer(alloc: Global, answer: &Answer) -> Result<Vec<u8>, NoMemory>
     requires { IsFitAnswer answer.now }
     ensures { IfOk result (λ bytes. bytes.items ≡ answer_spelling answer.now) }
 {
-    let mut writer = Writer::new(alloc);
+    let mut writer = Writer::with_room(alloc, room_for(answer))?;
     write_result(answer, &mut writer)?;
     Ok(writer.finish())
+}
+
+// Room for a result: all but names of a directory fit into it.
+fn room_for(answer: &Answer) -> usize {
+    let data = match answer {
+        Answer::Path(bytes) | Answer::Part { bytes, .. } => bytes.len(),
+        _ => 0,
+    };
+    data.saturating_add(MAX_FIXED_BYTES)
 }
 
 // Writes a result.

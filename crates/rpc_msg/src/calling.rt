@@ -15,6 +15,10 @@ use std::alloc::Global;
 /// How many bytes of the body of AUTH_UNIX stand before the further groups where no machine is named.
 const UNIX_BYTES: u32 = 20;
 
+/// The most bytes of a call before its arguments: six words, AUTH_UNIX with 16 further groups, and a verifier of
+/// nothing.
+const MAX_HEAD_BYTES: usize = 124;
+
 /// A call, as a client sends it (RFC 1057, section 8): without a credential where nobody calls, else with
 /// AUTH_UNIX of stamp 0 that names no machine, and with a verifier of nothing. The program and the
 /// procedure have to be there, and the further groups be at most 16.
@@ -22,7 +26,8 @@ pub fn write_call(alloc: Global, call: &RpcCall) -> Result<Vec<u8>, NoMemory>
     requires { MayCall (program_of call.now.program) call.now }
     ensures { IfOk result (λ bytes. bytes.items ≡ call_spelling call.now) }
 {
-    let mut writer = Writer::new(alloc);
+    let room = call.args.len().saturating_add(MAX_HEAD_BYTES);
+    let mut writer = Writer::with_room(alloc, room)?;
     Head::write(&head_of(call), &mut writer)?;
     write_cred(&mut writer, &call.cred)?;
     write_words(&mut writer, &[AUTH_NULL, 0])?;

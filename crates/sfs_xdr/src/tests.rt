@@ -29,6 +29,20 @@ fn items_are_written_and_read_again(rt: HostRuntime) -> Result<(), Fail> {
 }
 
 #[test]
+fn a_writer_with_room_writes_the_same(rt: HostRuntime) -> Result<(), Fail> {
+    for room in [0, 3, 12] {
+        let mut writer = Writer::with_room(rt.alloc(), room)?;
+        writer.opaque_var(b"abcde")?;
+        assert_eq!(rt;
+            writer.finish().as_slice(),
+            [0, 0, 0, 5, 97, 98, 99, 100, 101, 0, 0, 0].as_slice(),
+            "with room for {room}"
+        );
+    }
+    Ok(())
+}
+
+#[test]
 fn a_refused_call_leaves_the_reader(rt: HostRuntime) {
     let bytes = [0, 0, 0, 2, 9, 9];
     let mut reader = Reader::new(&bytes);

@@ -1,4 +1,4 @@
-ghost use Rattle.std.specs.Prelude.{◌≡◌, ◌<◌, ◌^◌, List, ℕ, [], ◌++◌, length, OnOk, OnErr};
+ghost use Rattle.std.specs.Prelude.{◌≡◌, ◌<◌, ◌^◌, List, ℕ, [], ◌++◌, length, IfOk, OnOk, OnErr};
 ghost use Rattle.sfs_xdr.specs.Items.{word, boolean, opaque, opaque_var};
 
 use crate::UNIT;
@@ -31,6 +31,16 @@ impl Writer {
         Writer {
             out: Vec::new(alloc),
         }
+    }
+
+    /// A writer that has written nothing, with room for so many bytes: writing no more than these takes no
+    /// further memory.
+    pub fn with_room(alloc: Global, bytes: usize) -> Result<Writer, NoMemory>
+        ensures { IfOk result (λ w. w ≡ []) }
+    {
+        Ok(Writer {
+            out: Vec::with_capacity(alloc, bytes)?,
+        })
     }
 
     /// A number (RFC 1014, section 3.2).
