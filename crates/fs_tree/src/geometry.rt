@@ -1,17 +1,10 @@
 ghost use Rattle.std.specs.Prelude.{◌≡◌, IsTrue, ◌↔◌};
 ghost use Rattle.fs_tree.specs.Geometry.{IsWithinLimits, within_limits};
 
+use fs_layout::{MAX_BLOCKS, MAX_INODES, MAX_MEMORIES};
+
 /// The greatest number of NFS nodes of a cluster.
 pub const MAX_NODES: u32 = 8;
-
-/// The greatest number of memory nodes of a cluster.
-pub const MAX_MEMORIES: u32 = 8;
-
-/// The greatest number of blocks of a memory node: what one page of bits tells of.
-pub const MAX_BLOCKS: u32 = 16_384;
-
-/// The greatest number of inodes of a memory node: what one page of bits tells of.
-pub const MAX_INODES: u32 = 16_384;
 
 /// How large a cluster is: its NFS nodes, its memory nodes, and the blocks and inodes of each of these.
 #[derive(Clone, Copy, Debug, PartialEq, Eq)]
