@@ -3,10 +3,12 @@
 //! out. Without a word it is silent.
 //!
 //! - [`blocks`]: the records on the blocks of a memory node.
+//! - [`log_calls`]: appends to a log on a disk in memory, and loads of it.
 //! - [`wire`]: messages with 8 KiB of data.
 #![tactic(auto)]
 
 mod blocks;
+mod log_calls;
 mod wire;
 
 use std::{env, io};
@@ -15,6 +17,7 @@ fn main(rt: HostRuntime) -> io::Result<()> {
     let mut words = env::args(&rt)?.skip(1);
     match words.next() {
         Some(word) if word.as_str() == "blocks" => blocks::run(&rt),
+        Some(word) if word.as_str() == "log" => log_calls::run(&rt),
         Some(word) if word.as_str() == "wire" => wire::run(&rt),
         _ => Ok(()),
     }

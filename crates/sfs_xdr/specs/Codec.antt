@@ -1,5 +1,5 @@
 -- Values that are spelled as items one behind another: their grammar, and what reading them gives.
-use Rattle.std.specs.Prelude.{◌≡◌, ◌<◌, ◌≤◌, ◌^◌, ℕ, zero, suc, Bool, true, nat_le, if◌then◌else◌, List, [], ◌∷◌, ◌++◌, length, Result, Ok, Err}
+use Rattle.std.specs.Prelude.{◌≡◌, ◌<◌, ◌≤◌, ◌^◌, ℕ, zero, suc, Bool, nat_le, if◌then◌else◌, List, [], ◌∷◌, ◌++◌, length, Result, Ok, Err}
 use Rattle.sfs_base.specs.Reading.{◌>>=◌}
 use Rattle.sfs_xdr.specs.Items.{word, boolean, IsOpaque, IsOpaqueVar}
 use Rattle.sfs_xdr.specs.Reading.{word_of, boolean_of, opaque_of, opaque_max_of}

@@ -1,15 +1,15 @@
 -- Each reading function takes the spellings of its item and nothing else.
-use Rattle.std.proofs.Common.{◌≡◌, ℕ, zero, suc, ◌+◌, ◌-◌, ◌%◌, ◌^◌, ◌<◌, ◌≤◌, Bool, true, false, cond, ltb, eqb, List, [], ◌∷◌, ◌++◌, length, get_or, take, drop, Result, Ok, Err, refl, sym, ap, subst, ◌∙◌, append_assoc, arith, inl, inr}
+use Rattle.std.proofs.Common.{◌≡◌, ℕ, zero, suc, ◌+◌, ◌-◌, ◌^◌, ◌<◌, ◌≤◌, Bool, true, false, cond, ltb, eqb, List, [], ◌∷◌, ◌++◌, length, take, drop, Result, Ok, Err, refl, sym, ap, ◌∙◌, append_assoc, arith}
 use Rattle.std.specs.Prelude.{replicate}
 use Rattle.std.specs.Int.{Width, w32, byte_len, from_be_bytes, to_be_bytes}
-use Rattle.std.proofs.lemmas.Bool.{cases_lt, ltb-false, le-ltb}
+use Rattle.std.proofs.lemmas.Bool.{ltb-false, le-ltb}
 use Rattle.std.proofs.lemmas.List.{take_at, drop_at, take-append-drop, length-append, length-take, length-drop, length-replicate, drop-drop}
 use Rattle.std.proofs.lemmas.Nat.{be_bytes_4, from_be_bytes-to_be_bytes_4}
-use Rattle.sfs_base.specs.Reading.{IsBytes, IsExact, ◌>>=◌}
-use Rattle.sfs_base.proofs.ReadingLemmas.{IsBytes-take, IsBytes-drop, bind_ok, guard_ok, ok_is}
+use Rattle.sfs_base.specs.Reading.{IsBytes, ◌>>=◌}
+use Rattle.sfs_base.proofs.ReadingLemmas.{IsBytes-take, bind_ok, guard_ok, ok_is}
 use Rattle.sfs_xdr.specs.declared.xdr_fault.XdrFault.{XdrFault}
 use Rattle.sfs_xdr.specs.declared.xdr_fault.XdrFault.TheVariants.{Short, TooLong, NotBool}
-use Rattle.sfs_xdr.specs.Items.{word, boolean, padding_of, opaque, opaque_var, IsOpaque, IsOpaqueVar}
+use Rattle.sfs_xdr.specs.Items.{word, boolean, padding_of, opaque, IsOpaque, IsOpaqueVar}
 use Rattle.sfs_xdr.specs.Reading.{number_of, word_of, boolean_of, opaque_of, opaque_max_of}
 use Rattle.sfs_xdr.specs.Laws.{WordIsExact, BooleanIsExact, OpaqueIsExact, OpaqueMaxIsExact, WritersAreInTheGrammar}
 
