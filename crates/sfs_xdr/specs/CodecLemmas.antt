@@ -55,8 +55,7 @@ both_found {X} {Y} {E} first second A B is-first is-second bytes p rest fits e =
     let g = is-second.found s.0.1 t.0.0 t.0.1 behind t.1 in
     let pair = ok_is {E = E} ((s.0.0, t.0.0), t.0.1) (p, rest) t.2 in
     let value : (s.0.0, t.0.0) ≡ p = ap (λ (q : (X × Y) × List ℕ). q.0) pair in
-    let left : t.0.1 ≡ rest = ap (λ (q : (X × Y) × List ℕ). q.1) pair in
-    (
+    let left : t.0.1 ≡ rest = ap (λ (q : (X × Y) × List ℕ). q.1) pair in (
       f.0 ++ g.0,
       subst (λ (q : X × Y). (A q.0 ⟫ B q.1) (f.0 ++ g.0)) value (record { front = f.0; back = g.0; first = f.1; second = g.1; spelled = refl }),
       f.2 ∙ ap (λ (r : List ℕ). f.0 ++ r) (g.2 ∙ ap (λ (r : List ℕ). g.0 ++ r) left) ∙ sym (append_assoc f.0 g.0 rest),
@@ -134,11 +133,10 @@ many_found {X} read Spells exact (suc n) bytes xs rest fits e =
     let g = many_found read Spells exact n s.0.1 t.0.0 t.0.1 behind t.1 in
     let pair = ok_is {E = Unit {0}} (s.0.0 ∷ t.0.0, t.0.1) (xs, rest) t.2 in
     let value : s.0.0 ∷ t.0.0 ≡ xs = ap (λ (q : List X × List ℕ). q.0) pair in
-    let left : t.0.1 ≡ rest = ap (λ (q : List X × List ℕ). q.1) pair in
-    (
+    let left : t.0.1 ≡ rest = ap (λ (q : List X × List ℕ). q.1) pair in (
       f.0 ++ g.0,
       subst (λ (l : List X). (length l ≡ suc n) × Many Spells l (f.0 ++ g.0)) value
-        (ap suc g.1.0, record { front = f.0; back = g.0; first = f.1; second = g.1.1; spelled = refl }),
+          (ap suc g.1.0, record { front = f.0; back = g.0; first = f.1; second = g.1.1; spelled = refl }),
       f.2 ∙ ap (λ (r : List ℕ). f.0 ++ r) (g.2 ∙ ap (λ (r : List ℕ). g.0 ++ r) left) ∙ sym (append_assoc f.0 g.0 rest),
     )
 
@@ -176,8 +174,7 @@ counted_exact {X} max read Spells exact = record {
       let behind : IsBytes s.0.1 = IsBytes-behind f.0 s.0.1 (λ k. let g = fits k in rw f.2 at g) in
       let t = counted_ok (leb s.0.0 max) (many_of read s.0.0 s.0.1) (xs, rest) s.2 in
       let g = (many_exact read Spells exact s.0.0).found s.0.1 xs rest behind t.1 in
-      let few : length xs ≤ max = subst (λ (k : ℕ). k ≤ max) (sym g.1.0) (leb-true s.0.0 max t.0) in
-      (
+      let few : length xs ≤ max = subst (λ (k : ℕ). k ≤ max) (sym g.1.0) (leb-true s.0.0 max t.0) in (
         f.0 ++ g.0,
         (few, record { front = f.0; back = g.0; first = subst (λ (k : ℕ). IsNumber k f.0) (sym g.1.0) f.1; second = g.1.1; spelled = refl }),
         f.2 ∙ ap (λ (r : List ℕ). f.0 ++ r) g.2 ∙ sym (append_assoc f.0 g.0 rest),

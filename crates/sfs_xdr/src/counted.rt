@@ -4,7 +4,6 @@ ghost use Rattle.sfs_xdr.specs.Items.{word};
 ghost use Rattle.sfs_xdr.specs.Codec.{many_of, counted_of, IsCounted};
 ghost use Rattle.sfs_xdr.specs.CodecLemmas.{counted_exact, counted_written};
 ghost use Rattle.sfs_xdr.specs.declared.item_fault.ItemFault.TheVariants.{Malformed as malformed};
-
 ghost use Rattle.std.proofs.Common.{rules};
 
 use crate::codec::Codec;

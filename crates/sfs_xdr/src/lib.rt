@@ -27,9 +27,9 @@ pub use laws::{
     boolean_is_exact, opaque_is_exact, opaque_max_is_exact, word_is_exact,
     writers_are_in_the_grammar,
 };
+pub use numbers::write_words;
 pub use reader::Reader;
 pub use sfs_base::{Bytes, NoMemory};
-pub use numbers::write_words;
 pub use text::Text;
 pub use writer::Writer;
 pub use xdr_fault::XdrFault;

@@ -138,13 +138,22 @@ fn values_are_written_and_read_again(rt: HostRuntime) -> Result<(), Fail> {
 #[test]
 fn what_spells_no_value_is_malformed(rt: HostRuntime) {
     let mut reader = Reader::new(&[0, 0, 0]);
-    assert_eq!(rt; u32::read(rt.alloc(), &mut reader), Err(ItemFault::Malformed));
+    assert_eq!(rt;
+        u32::read(rt.alloc(), &mut reader),
+        Err(ItemFault::Malformed)
+    );
     let mut reader = Reader::new(&[0, 0, 0, 2]);
-    assert_eq!(rt; bool::read(rt.alloc(), &mut reader), Err(ItemFault::Malformed));
+    assert_eq!(rt;
+        bool::read(rt.alloc(), &mut reader),
+        Err(ItemFault::Malformed)
+    );
     let mut reader = Reader::new(&[0, 0, 0, 3, 1, 2, 3, 0]);
     assert!(rt; Text::<2>::read(rt.alloc(), &mut reader).is_err());
     for count in [[0, 0, 0, 4], [255, 255, 255, 255], [0, 0, 0, 2]] {
         let mut reader = Reader::new(&count);
-        assert!(rt; Three::read(rt.alloc(), &mut reader).is_err(), "with {count:?}");
+        assert!(rt;
+            Three::read(rt.alloc(), &mut reader).is_err(),
+            "with {count:?}"
+        );
     }
 }

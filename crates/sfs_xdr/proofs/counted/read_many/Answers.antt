@@ -11,8 +11,8 @@ whole n = omega arith
 pub loop-init : goal.loop-init
 loop-init g c =
     rw c.new-values.ensures
-      (prefixed_none (many_of g.C.Codec.read_of (c.args.count - 0) c.args.reader.now)
-        ∙ ap (λ k. many_of g.C.Codec.read_of k c.args.reader.now) (whole c.args.count))
+    (prefixed_none (many_of g.C.Codec.read_of (c.args.count - 0) c.args.reader.now)
+    ∙ ap (λ k. many_of g.C.Codec.read_of k c.args.reader.now) (whole c.args.count))
 
 pub returns-in_err-value-clause-malformed : goal.returns-in_err-value-clause-malformed
 returns-in_err-value-clause-malformed g c = λ h.
@@ -23,8 +23,8 @@ returns-in_err-value-clause-malformed g c = λ h.
 pub loop-preserved : goal.loop-preserved
 loop-preserved g c =
     rw ((c.in_ok-push.ensures {u = tt}).ok)
-      (sym (prefixed_step g.C.Codec.read_of c.loop.values (c.args.count - c.loop.counter) (c.args.count - (c.loop.counter + 1)) c.in_ok-value.value c.loop.reader c.read.new.reader
-        ((c.in_ok-value.ensures).found) (omega (arith, c.loop-test.true))) ∙ c.loop.invariant)
+    (sym (prefixed_step g.C.Codec.read_of c.loop.values (c.args.count - c.loop.counter) (c.args.count - (c.loop.counter + 1)) c.in_ok-value.value c.loop.reader c.read.new.reader
+    ((c.in_ok-value.ensures).found) (omega (arith, c.loop-test.true))) ∙ c.loop.invariant)
 
 pub returns-clause-found : goal.returns-clause-found
 returns-clause-found g c =
