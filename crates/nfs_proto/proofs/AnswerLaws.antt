@@ -57,12 +57,11 @@ entries_found (suc n) bytes es rest fits e =
         let g = others s.0.1 t.0.0 t.0.1 more t.1 in
         let pair = ok_is {E = Unit {0}} (s.0.0 ∷ t.0.0, t.0.1) (es, rest) t.2 in
         let value : s.0.0 ∷ t.0.0 ≡ es = ap (λ (q : List DirEntry × List ℕ). q.0) pair in
-        let left : t.0.1 ≡ rest = ap (λ (q : List DirEntry × List ℕ). q.1) pair in
-        (
+        let left : t.0.1 ≡ rest = ap (λ (q : List DirEntry × List ℕ). q.1) pair in (
           front ++ (f.0 ++ g.0),
           subst (λ (l : List DirEntry). IsEntries l (front ++ (f.0 ++ g.0))) value (behind front (f.0 ++ g.0) spells (behind f.0 g.0 f.1 g.1)),
           is ∙ ap (λ (r : List ℕ). front ++ r) (f.2 ∙ ap (λ (r : List ℕ). f.0 ++ r) (g.2 ∙ ap (λ (r : List ℕ). g.0 ++ r) left) ∙ sym (append_assoc f.0 g.0 rest))
-          ∙ sym (append_assoc front (f.0 ++ g.0) rest),
+              ∙ sym (append_assoc front (f.0 ++ g.0) rest),
         )
 
 -- there are fewer names than bytes
@@ -77,7 +76,7 @@ unfolding entries_within
 entries_again zero es item rest few is = absurd (omega arith)
 entries_again (suc n) [] item rest few is =
     ap (λ (r : Result (Bool × List ℕ) (Unit {0})). r >>= behind_more n)
-      (boolean_item_exact.again false item rest is)
+    (boolean_item_exact.again false item rest is)
 entries_again (suc n) (e ∷ es) item rest few is =
     let first : boolean_item (item ++ rest) ≡ Ok (true, is.back ++ rest) =
     ap boolean_item (ap (λ (i : List ℕ). i ++ rest) is.spelled ∙ append_assoc is.front is.back rest) ∙ boolean_item_exact.again true is.front (is.back ++ rest) is.first in
@@ -145,8 +144,8 @@ unfolding space_of
 space_exact =
     forgetting_exact space_from _ SpellsFive
     (both_exact number_item _ IsNumber _ number_exact
-      (both_exact number_item _ IsNumber _ number_exact
-        (both_exact number_item _ IsNumber _ number_exact (both_exact number_item number_item IsNumber IsNumber number_exact number_exact))))
+    (both_exact number_item _ IsNumber _ number_exact
+    (both_exact number_item _ IsNumber _ number_exact (both_exact number_item number_item IsNumber IsNumber number_exact number_exact))))
 
 body_found : (f : Form) (bytes : List ℕ) (a : Answer) (rest : List ℕ) → IsBytes bytes → body_of f bytes ≡ Ok (a, rest) → (item : List ℕ) × IsBody f a item × (bytes ≡ item ++ rest)
 body_found form.Nothing bytes a rest fits e = absurd cc
@@ -289,21 +288,23 @@ results_written f (answer.Attr attr) belongs typed fits =
 results_written f (answer.Found file attr) belongs typed fits =
     subst (λ g. IsResult g (answer.Found file attr) (answer_spelling (answer.Found file attr))) (sym belongs)
     (inr (behind (word 0) (opaque file.0 ++ words (fattr_words attr)) ok
-      (refl, behind (opaque file.0) (words (fattr_words attr)) (handle_written file typed.0 tt) (fattr_written attr typed.1 tt))))
+    (refl, behind (opaque file.0) (words (fattr_words attr)) (handle_written file typed.0 tt) (fattr_written attr typed.1 tt))))
 results_written f (answer.Path path) belongs typed fits =
     subst (λ g. IsResult g (answer.Path path) (answer_spelling (answer.Path path))) (sym belongs)
     (inr (behind (word 0) (opaque_var path) ok (refl, text_written 1024 path fits)))
 results_written f (answer.Part attr bytes) belongs typed fits =
     subst (λ g. IsResult g (answer.Part attr bytes) (answer_spelling (answer.Part attr bytes))) (sym belongs)
     (inr (behind (word 0) (words (fattr_words attr) ++ opaque_var bytes) ok
-      (refl, behind (words (fattr_words attr)) (opaque_var bytes) (fattr_written attr typed tt) (text_written 8192 bytes fits))))
+    (refl, behind (words (fattr_words attr)) (opaque_var bytes) (fattr_written attr typed tt) (text_written 8192 bytes fits))))
 results_written f (answer.Names entries eof) belongs typed fits =
     subst (λ g. IsResult g (answer.Names entries eof) (answer_spelling (answer.Names entries eof))) (sym belongs)
     (inr (behind (word 0) (entries_spelling entries ++ boolean eof) ok
-      (refl, behind (entries_spelling entries) (boolean eof) (entries_written entries typed fits) refl)))
+    (refl, behind (entries_spelling entries) (boolean eof) (entries_written entries typed fits) refl)))
 results_written f (answer.Space tsize bsize blocks bfree bavail) belongs typed fits =
     subst (λ g. IsResult g (answer.Space tsize bsize blocks bfree bavail) (answer_spelling (answer.Space tsize bsize blocks bfree bavail))) (sym belongs)
-    (inr (behind (word 0) (words (tsize ∷ bsize ∷ blocks ∷ bfree ∷ bavail ∷ [])) ok
-      (refl, behind (word tsize) _ (typed.0, refl)
-        (behind (word bsize) _ (typed.1.0, refl)
-          (behind (word blocks) _ (typed.1.1.0, refl) (behind (word bfree) (word bavail) (typed.1.1.1.0, refl) (typed.1.1.1.1.0, refl)))))))
+    (inr (behind (word 0) (words (tsize ∷ bsize ∷ blocks ∷ bfree ∷ bavail ∷ [])) ok (
+      refl,
+      behind (word tsize) _ (typed.0, refl)
+          (behind (word bsize) _ (typed.1.0, refl)
+          (behind (word blocks) _ (typed.1.1.0, refl) (behind (word bfree) (word bavail) (typed.1.1.1.0, refl) (typed.1.1.1.1.0, refl)))),
+    )))

@@ -31,7 +31,9 @@ pub use call::Call;
 pub use dir_entry::{DirEntries, DirEntry};
 pub use fattr::Fattr;
 pub use handle::Handle;
-pub use laws::{arguments_are_exact, arguments_are_written, results_are_exact, results_are_written};
+pub use laws::{
+    arguments_are_exact, arguments_are_written, results_are_exact, results_are_written,
+};
 pub use limits::{LAST_PROCEDURE, MAX_DATA_BYTES, MAX_NAME_BYTES, MAX_PATH_BYTES};
 pub use sattr::Sattr;
 pub use sfs_base::{Bytes, NoMemory};
