@@ -3,7 +3,6 @@ use Rattle.std.proofs.Common.{◌≡◌, ℕ, zero, suc, ◌≤◌, Bool, true, 
 use Rattle.std.specs.Prelude.{bytes_eq}
 use Rattle.sfs_xdr.specs.Items.{words}
 use Rattle.sfs_xdr.specs.Codec.{text_item}
-use Rattle.sfs_xdr.specs.declared.arg_fault.ArgFault.{ArgFault}
 use Rattle.mount_proto.specs.Mount.{root_handle, exported, mounted, with_path, answer_of}
 
 -- these numbers, at most nine

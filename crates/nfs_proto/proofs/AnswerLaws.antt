@@ -1,12 +1,12 @@
 -- Reading a result takes its spellings and nothing else, and what is written is one of them.
-use Rattle.std.proofs.Common.{◌≡◌, ℕ, zero, suc, ◌+◌, ◌<◌, ◌≤◌, ◌^◌, Bool, true, false, cond, eqb, List, [], ◌∷◌, ◌++◌, length, Result, Ok, Err, ◌⊎◌, inl, inr, lit<, refl, sym, ap, subst, ◌∙◌, append_assoc, arith}
+use Rattle.std.proofs.Common.{◌≡◌, ℕ, zero, suc, ◌<◌, ◌≤◌, Bool, true, false, cond, eqb, List, [], ◌∷◌, ◌++◌, length, Result, Ok, Err, ◌⊎◌, inl, inr, lit<, refl, sym, ap, subst, ◌∙◌, append_assoc, arith}
 use Rattle.std.proofs.lemmas.Bool.{eqb-true, ne_eqb}
 use Rattle.std.proofs.lemmas.List.{length-append}
 use Rattle.std.specs.List.{AllByRecursion}
 use Rattle.sfs_base.specs.Reading.{IsBytes, IsExact, ◌>>=◌}
 use Rattle.sfs_base.proofs.ReadingLemmas.{IsBytes-behind, bind_ok, ok_is}
 use Rattle.sfs_xdr.specs.Items.{word, words, boolean, opaque, opaque_var}
-use Rattle.sfs_xdr.specs.Codec.{Reading, both_of, number_item, boolean_item, ◌⟫◌, IsNumber, IsBoolean}
+use Rattle.sfs_xdr.specs.Codec.{number_item, boolean_item, ◌⟫◌, IsNumber, IsBoolean}
 use Rattle.sfs_xdr.specs.CodecLemmas.{number_exact, boolean_item_exact, text_exact, both_exact, forgetting_exact, behind, text_written}
 use Rattle.nfs_proto.specs.declared.answer.Answer.{Answer}
 use Rattle.nfs_proto.specs.declared.answer.Answer.TheVariants as answer
@@ -18,9 +18,9 @@ use Rattle.nfs_proto.specs.declared.handle.Handle.{Handle}
 use Rattle.nfs_proto.specs.Types.{IsHandle, handle_item, IsPath, path_item, IsData, data_item, IsFattr, fattr_item, fattr_words}
 use Rattle.nfs_proto.specs.TypeLemmas.{handle_exact, handle_written, fattr_exact, fattr_written}
 use Rattle.nfs_proto.specs.Arguments.{nothing}
-use Rattle.nfs_proto.specs.Answers.{is_fault, IsEntry, entry_item, IsEntries, entries_within, entries_item, IsSpace, plain_of, attr_of, found_of, path_of, part_of, names_of, space_of, body_of, status_of, empty_of, result_of, IsBody, IsFault, IsResult, entry_spelling, entries_spelling, answer_spelling, IsFitAnswer}
+use Rattle.nfs_proto.specs.Answers.{is_fault, entry_item, IsEntries, entries_within, entries_item, IsSpace, plain_of, attr_of, found_of, path_of, part_of, names_of, space_of, body_of, status_of, empty_of, IsBody, IsFault, IsResult, entry_spelling, entries_spelling, answer_spelling}
 use Rattle.nfs_proto.specs.AnswerLemmas.{entry_exact, entry_written}
-use Rattle.nfs_proto.specs.Laws.{IsTypedEntry, IsTypedAnswer, Belongs, ResultsAreExact, ResultsAreWritten}
+use Rattle.nfs_proto.specs.Laws.{IsTypedEntry, ResultsAreExact, ResultsAreWritten}
 use Rattle.nfs_proto.proofs.ArgumentLaws.{nothing_exact}
 
 -- ---- names of a directory

@@ -1,19 +1,18 @@
 -- Reading the arguments of a procedure takes their spellings and nothing else, and what is written is one of them.
-use Rattle.std.proofs.Common.{◌≡◌, ℕ, zero, suc, ◌<◌, ◌≤◌, ◌^◌, List, [], ◌∷◌, ◌++◌, length, Result, Ok, Err, lit<, refl, sym, ap, subst, ◌∙◌, arith}
+use Rattle.std.proofs.Common.{◌≡◌, ℕ, zero, suc, List, [], ◌++◌, Ok, lit<, refl, sym, ap, subst, ◌∙◌}
 use Rattle.sfs_base.specs.Reading.{IsBytes, IsExact}
 use Rattle.sfs_base.proofs.ReadingLemmas.{ok_is}
-use Rattle.sfs_xdr.specs.Items.{word, words, opaque, opaque_var}
-use Rattle.sfs_xdr.specs.ItemLemmas.{writers_are_in}
-use Rattle.sfs_xdr.specs.Codec.{Reading, number_item, ◌⟫◌, IsNumber}
+use Rattle.sfs_xdr.specs.Items.{word, opaque, opaque_var}
+use Rattle.sfs_xdr.specs.Codec.{number_item, ◌⟫◌, IsNumber}
 use Rattle.sfs_xdr.specs.CodecLemmas.{number_exact, text_exact, both_exact, forgetting_exact, behind, text_written}
 use Rattle.nfs_proto.specs.declared.call.Call.{Call}
 use Rattle.nfs_proto.specs.declared.call.Call.TheVariants.{Null, GetAttr, SetAttr, Root, Lookup, ReadLink, Read, WriteCache, Write, Create, Remove, Rename, Link, SymLink, MakeDir, RemoveDir, ReadDir, StatFs}
 use Rattle.nfs_proto.specs.declared.handle.Handle.{Handle}
 use Rattle.nfs_proto.specs.declared.sattr.Sattr.{Sattr}
-use Rattle.nfs_proto.specs.Types.{AreWords, IsHandle, handle_item, IsName, name_item, IsPath, path_item, IsData, data_item, IsSattr, sattr_item, sattr_words}
+use Rattle.nfs_proto.specs.Types.{IsHandle, handle_item, IsName, name_item, IsPath, path_item, IsData, data_item, IsSattr, sattr_item}
 use Rattle.nfs_proto.specs.TypeLemmas.{handle_exact, handle_written, sattr_exact, sattr_written}
-use Rattle.nfs_proto.specs.Arguments.{procedure_of, IsArguments, IsFit, nothing, null_of, get_attr_of, set_attr_of, root_of, lookup_of, read_link_of, read_of, write_cache_of, write_of, create_of, remove_of, rename_of, link_of, sym_link_of, make_dir_of, remove_dir_of, read_dir_of, stat_fs_of, arguments_of, arguments_spelling}
-use Rattle.nfs_proto.specs.Laws.{IsTyped, ArgumentsAreExact, ArgumentsAreWritten}
+use Rattle.nfs_proto.specs.Arguments.{procedure_of, IsArguments, nothing, null_of, get_attr_of, set_attr_of, root_of, lookup_of, read_link_of, read_of, write_cache_of, write_of, create_of, remove_of, rename_of, link_of, sym_link_of, make_dir_of, remove_dir_of, read_dir_of, stat_fs_of, arguments_of}
+use Rattle.nfs_proto.specs.Laws.{ArgumentsAreExact, ArgumentsAreWritten}
 
 name_exact : IsExact name_item IsName
 name_exact = text_exact 1024 (lit< tt)
