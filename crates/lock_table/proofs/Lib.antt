@@ -1,0 +1,3 @@
+mod ExclusionLemmas
+mod LeastLemmas
+mod MapLemmas

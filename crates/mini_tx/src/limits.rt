@@ -1,0 +1,8 @@
+/// The greatest number that a length or a count in an entry may be: they are words.
+pub(crate) const LONGEST: u32 = 4_294_967_295;
+
+/// The most items of a minitransaction.
+pub const MAX_ITEMS: usize = 512;
+
+/// The most bytes of all items of a minitransaction, where a read item counts its length.
+pub const MAX_ITEM_BYTES: usize = 1_048_576;
