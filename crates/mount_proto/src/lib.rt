@@ -4,8 +4,10 @@
 //! which any client may mount. What is answered is in `specs/Mount.antt`.
 #![tactic(auto)]
 
+mod laws;
 mod mounting;
 
+pub use laws::paths_are_exact;
 pub use mounting::{LAST_PROCEDURE, MAX_PATH_BYTES, answer};
 pub use sfs_xdr::{ArgFault, Bytes};
 
