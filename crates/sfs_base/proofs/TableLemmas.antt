@@ -1,13 +1,17 @@
 -- A table over a map of the library is the finite map that its entries make.
-use Rattle.std.proofs.Common.{◌≡◌, ℕ, zero, suc, ◌-◌, ◌<◌, true, false, cond, List, [], ◌∷◌, length, map, Option, Some, None, refl, sym, ap, ◌∙◌, arith}
-use Rattle.std.specs.Prelude.{slice_get, option_map}
+use Rattle.std.proofs.Common.{◌≡◌, ℕ, zero, suc, ◌-◌, ◌<◌, true, false, cond, List, [], ◌∷◌, length, map, Option, Some, None, refl, sym, ap, subst, ◌∙◌, arith}
+use Rattle.std.specs.Prelude.{◌≤◌, Result, Ok, Err, OnErr, slice_get, option_map, IsSome, IfNone, IfSome}
 use Rattle.std.specs.declared.cmp.Ordering.TheVariants.{Less}
 use Rattle.std.specs.List.{AllByRecursion}
 use Rattle.std.specs.List.Sorted.{IsStrictlySortedBy}
-use Rattle.std.specs.Ordering.{nat_cmp, eq_by_cmp}
+use Rattle.std.specs.Ordering.{nat_cmp, eq_by_cmp, is_gt}
 use Rattle.std.proofs.lemmas.List.{nil_from_length}
 use Rattle.std.specs.Cmp.{eq_by_cmp_equiv, nat_cmp_total}
-use Rattle.std.specs.BTreeMap.{is_at}
+use Rattle.std.specs.declared.ops.Bound.TheVariants.{Included, Unbounded}
+use Rattle.std.specs.BTreeMap.{BTreeMap, is_at}
+use Rattle.std.specs.BTreeMap.Range.{IsRangeOf, IsEntryInRange}
+use Rattle.std.proofs.lemmas.Bool.Decides.{nat_tests}
+use Rattle.std.proofs.lemmas.Map.Keys.{le_from_not_gt}
 use Rattle.std.specs.Map.{lookup, keys_of}
 use Rattle.std.specs.FinMap.Entries.{by_order}
 use Rattle.std.specs.FinMap.{find, put, get, len, keys, empty, entries, entries-insert, len-entries, len-empty, insert, remove, from_entries, get-from_entries, get-insert, get-remove, same_map, nat_cmp-IsAntisymmetric}
@@ -16,6 +20,18 @@ use Rattle.std.specs.FinMap.{find, put, get, len, keys, empty, entries, entries-
 pub no_entry : (n : ℕ) → ((false ≡ true → 0 < n) × (0 < n → false ≡ true)) → n ≡ 0
 no_entry zero h = refl
 no_entry (suc n) h = absurd (let e : false ≡ true = h.1 (omega arith) in cc)
+
+-- what holds at all holds of an error, and where there is nothing
+pub on_err : {X E P : Type 0} (r : Result X E) → P → OnErr r P
+on_err (Ok x) p = tt
+on_err (Err e) p = p
+
+pub on_none : {X P : Type 0} (o : Option X) → P → IfNone o P
+on_none None p = p
+on_none (Some x) p = tt
+
+not_above : (a b : ℕ) → a ≤ b → is_gt (nat_cmp a b) ≡ false
+not_above a b le = grind (arith, nat_tests)
 
 module _ {X : Type 0} where
   -- a look-up in the entries
@@ -78,3 +94,29 @@ module _ {X : Type 0} where
   unfolding IsStrictlySortedBy
   last_absent [] none = ap (λ (fs : List (ℕ × X)). slice_get (map (λ (p : ℕ × X). p.0) fs) (len (from_entries {X = X} {R = nat_cmp} []) - 1)) (sym (entries-from_entries [] tt))
   last_absent (e ∷ es) none = absurd (omega arith)
+
+  -- the range of a map from a number on that has nothing
+  pub range_none : (m : BTreeMap ℕ X) (at : ℕ) (r : List (ℕ × X)) → IsRangeOf nat_cmp (Included at) Unbounded m r → r ≡ []
+      → (q : ℕ) → at ≤ q → get (from_entries {R = nat_cmp} m.entries) q ≡ None
+  range_none m at r range none q le = get_entry m.entries q ∙ range.5 none q (not_above at q le, tt)
+
+  -- the place of the first
+  first_in : (m : BTreeMap ℕ X) (at : ℕ) (e : ℕ × X) → IsEntryInRange nat_cmp (Included at) Unbounded m e → (at ≤ e.0) × IsSome (get (from_entries {R = nat_cmp} m.entries) e.0)
+  first_in m at e h = (le_from_not_gt at e.0 h.0.0, subst IsSome (sym (get_entry m.entries e.0 ∙ h.1)) refl)
+
+  -- and the first of one that has something
+  pub range_first : (m : BTreeMap ℕ X) (at : ℕ) (r : List (ℕ × X)) (e : ℕ × X) (t : List (ℕ × X)) → IsRangeOf nat_cmp (Included at) Unbounded m r → r ≡ e ∷ t
+      → (at ≤ e.0) × IsSome (get (from_entries {R = nat_cmp} m.entries) e.0)
+  range_first m at r e t range is =
+      first_in m at e (subst (λ (es : List (ℕ × X)). IfSome (slice_get es 0) (IsEntryInRange nat_cmp (Included at) Unbounded m)) is range.1)
+
+  -- what stands before the first: nothing
+  before_first : (m : BTreeMap ℕ X) (at : ℕ) (e : ℕ × X) (t : List (ℕ × X)) → IsRangeOf nat_cmp (Included at) Unbounded m (e ∷ t)
+      → (q : ℕ) → at ≤ q → q < e.0 → (o : Option X) → lookup (is_at (nat_cmp q)) m.entries ≡ o → o ≡ None
+  before_first m at e t range q le lt None is = refl
+  before_first m at e t range q le lt (Some v) is = absurd (let h : e.0 ≤ q = le_from_not_gt e.0 q (range.2 q (not_above at q le, tt) (subst IsSome (sym is) refl)) in omega arith)
+
+  pub range_least : (m : BTreeMap ℕ X) (at : ℕ) (r : List (ℕ × X)) (e : ℕ × X) (t : List (ℕ × X)) → IsRangeOf nat_cmp (Included at) Unbounded m r → r ≡ e ∷ t
+      → (q : ℕ) → at ≤ q → q < e.0 → get (from_entries {R = nat_cmp} m.entries) q ≡ None
+  range_least m at r e t range is q le lt =
+      get_entry m.entries q ∙ before_first m at e t (subst (IsRangeOf nat_cmp (Included at) Unbounded m) is range) q le lt _ refl

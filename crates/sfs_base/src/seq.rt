@@ -1,10 +1,11 @@
-ghost use Rattle.std.specs.Prelude.{◌≡◌, ◌==◌, List, [], ◌∷◌, ◌++◌, length, OnOk, OnErr, IfOk};
+ghost use Rattle.std.specs.Prelude.{◌≡◌, ◌<◌, ◌==◌, List, [], ◌∷◌, ◌++◌, length, slice_get, slice_set, Some, OnOk, OnErr, IfOk};
 ghost use Rattle.std.specs.List.{AllZip};
 ghost use Rattle.std.specs.Cmp.Lexicographic.{pointwise, lists_per, lists_equiv};
 
 use crate::no_memory::NoMemory;
 use std::alloc::{AllocError, Global};
 use std::marker::Model;
+use std::mem;
 
 /// A list. A contract sees the elements in order, and not the room that is reserved behind them.
 #[derive(Debug, Drop)]
@@ -76,6 +77,27 @@ impl<T> Seq<T> {
         ensures err { OnErr result (self.new ≡ self.old) }
     {
         self.items.push(item)?;
+        Ok(())
+    }
+
+    /// Puts an element in the place of another, and gives that. It takes no memory.
+    pub fn replace(&mut self, at: usize, item: T) -> T
+        requires { at < length self.old }
+        ensures gives { slice_get self.old at ≡ Some result }
+        ensures after { self.new ≡ slice_set self.old at item }
+    {
+        mem::replace(&mut self.items[at], item)
+    }
+
+    /// Moves the elements of another list to the end. On [`NoMemory`] the list is as before.
+    pub fn append(&mut self, other: Seq<T>) -> Result<(), NoMemory>
+    where
+        T: Drop,
+        ensures ok { OnOk result (self.new ≡ self.old ++ other) }
+        ensures err { OnErr result (self.new ≡ self.old) }
+    {
+        let mut items = other.items;
+        self.items.append(&mut items)?;
         Ok(())
     }
 }

@@ -1,11 +1,14 @@
-ghost use Rattle.std.specs.Prelude.{◌≡◌, ◌-◌, ◌^◌, ◌<◌, ◌==◌, slice_get, IfOk, OnOk, OnErr};
+ghost use Rattle.std.specs.Prelude.{◌≡◌, ℕ, ◌-◌, ◌^◌, ◌<◌, ◌≤◌, ◌==◌, None, slice_get, IfOk, OnOk, OnErr, IsSome, IfSome, OnSome, IfNone};
 ghost use Rattle.std.specs.Option.{option_copied};
 ghost use Rattle.std.specs.FinMap as map;
+ghost use Rattle.std.specs.Map.Iter.{ShowsInOrder, deref_pair};
 
 use crate::no_memory::NoMemory;
 use std::alloc::Global;
 use std::collections::BTreeMap;
+use std::collections::btree_map::Iter;
 use std::marker::Model;
+use std::mem;
 
 /// A finite table: a value at some of the numbers below 2^32. A contract sees the finite map.
 #[derive(Debug, Drop)]
@@ -61,6 +64,25 @@ impl<V> Table<V> {
         self.len() == 0
     }
 
+    /// The entries in ascending order of their numbers.
+    pub fn iter(&self) -> Iter<'_, u32, V>
+        ensures entries { result ≡ map.entries self.now }
+        ensures runs { ShowsInOrder (deref_pair {K = ℕ} {X = V}) }
+    {
+        self.entries.iter()
+    }
+
+    /// The least number at or above `at` that has a value, if there is one.
+    pub fn next_from(&self, at: u32) -> Option<u32>
+        ensures there { IfSome result (λ next. (at ≤ next) × IsSome (map.get self.now next)) }
+        ensures least { IfSome result (λ next. (q : ℕ) → at ≤ q → q < next → map.get self.now q ≡ None) }
+        ensures none { IfNone result ((q : ℕ) → at ≤ q → map.get self.now q ≡ None) }
+    {
+        let (next, _) = self.entries.range(at..).next()?;
+        let next = *next;
+        Some(next)
+    }
+
     /// The greatest number with a value, if there is one.
     pub fn last_key(&self) -> Option<u32>
         ensures { result ≡ slice_get (map.keys self.now) (map.len self.now - 1) }
@@ -77,8 +99,23 @@ impl<V> Table<V> {
         ensures before { IfOk result (λ before. before ≡ map.get self.old at) }
         ensures ok { OnOk result (self.new ≡ map.insert self.old at value) }
         ensures err { OnErr result (self.new ≡ self.old) }
+        ensures absent { OnErr result (map.get self.old at ≡ None) }
     {
         Ok(self.entries.insert(at, value)?)
+    }
+
+    /// Puts a value at a number that has one, and gives the one that stood there. It takes no memory.
+    ///
+    /// Where the number has no value the table is as before, and the answer is `None`.
+    pub fn replace(&mut self, at: u32, value: V) -> Option<V>
+    where
+        V: Drop,
+        ensures before { result ≡ map.get self.old at }
+        ensures some { OnSome result (self.new ≡ map.insert self.old at value) }
+        ensures none { IfNone result (self.new ≡ self.old) }
+    {
+        let stood = self.entries.get_mut(&at)?;
+        Some(mem::replace(stood, value))
     }
 
     /// Takes the value at a number out, if there is one. It takes no memory.

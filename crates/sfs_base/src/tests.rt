@@ -1,3 +1,6 @@
+ghost use Rattle.std.specs.Prelude.{◌≡◌, ◌^◌, ◌<◌, sum_by};
+ghost use Rattle.std.specs.FinMap as map;
+
 use super::*;
 use std::alloc::AllocError;
 use std::test::*;
@@ -35,6 +38,17 @@ fn a_clone_equals_its_list_until_one_grows(rt: HostRuntime) -> Result<(), Fail> 
     assert!(rt; clone != list);
     assert_eq!(rt; list.as_slice(), [7, 9].as_slice());
     assert_eq!(rt; clone.as_slice(), [7, 9, 9].as_slice());
+    Ok(())
+}
+
+#[test]
+fn an_element_is_replaced_and_a_list_appended(rt: HostRuntime) -> Result<(), Fail> {
+    let mut list: Bytes = Seq::from_slice(rt.alloc(), &[3, 1, 2])?;
+    if list.len() == 3 {
+        assert_eq!(rt; list.replace(1, 9), 1);
+    }
+    list.append(Seq::from_slice(rt.alloc(), &[5])?)?;
+    assert_eq!(rt; list.as_slice(), [3, 9, 2, 5].as_slice());
     Ok(())
 }
 
@@ -77,6 +91,60 @@ fn a_table_is_a_finite_map(rt: HostRuntime) -> Result<(), Fail> {
     assert_eq!(rt; table.remove(u32::MAX), Some(60));
     assert_eq!(rt; table.remove(u32::MAX), None);
     assert_eq!(rt; (table.len(), table.last_key()), (2, Some(5)));
+    Ok(())
+}
+
+#[test]
+fn a_value_is_replaced_where_one_stands(rt: HostRuntime) -> Result<(), Fail> {
+    let mut table: Table<u8> = Table::new(rt.alloc());
+    table.insert(5, 50)?;
+    assert_eq!(rt; table.replace(5, 51), Some(50));
+    assert_eq!(rt; table.replace(6, 60), None);
+    assert_eq!(rt;
+        (table.len(), table.get(5), table.get(6)),
+        (1, Some(&51), None)
+    );
+    Ok(())
+}
+
+#[test]
+fn the_next_number_with_a_value_is_found(rt: HostRuntime) -> Result<(), Fail> {
+    let mut table: Table<u8> = Table::new(rt.alloc());
+    assert_eq!(rt; table.next_from(0), None);
+    table.insert(5, 50)?;
+    table.insert(u32::MAX, 60)?;
+    let cases = [(0, 5), (5, 5), (6, u32::MAX), (u32::MAX, u32::MAX)];
+    for (at, next) in cases {
+        assert_eq!(rt; table.next_from(at), Some(next), "from {at}");
+    }
+    table.remove(u32::MAX);
+    assert_eq!(rt; table.next_from(6), None);
+    Ok(())
+}
+
+// The sum of the values, which a table may have no more of than fit.
+fn sum_of(table: &Table<u8>) -> u64
+    requires { sum_by (λ e. e.1) (map.entries table.now) < 2 ^ 64 }
+    ensures { result ≡ sum_by (λ e. e.1) (map.entries table.now) }
+{
+    let mut sum = 0;
+    for (_, value) in table.iter() {
+        sum += u64::from(*value);
+    }
+    sum
+}
+
+#[test]
+fn entries_come_in_ascending_order(rt: HostRuntime) -> Result<(), Fail> {
+    let mut table: Table<u8> = Table::new(rt.alloc());
+    for (at, value) in [(9, 1), (2, 2), (5, 3)] {
+        table.insert(at, value)?;
+    }
+    let mut seen: Vec<u32> = Vec::new(rt.alloc());
+    for (at, _) in table.iter() {
+        seen.push(*at)?;
+    }
+    assert_eq!(rt; seen.as_slice(), [2, 5, 9].as_slice());
     Ok(())
 }
 
