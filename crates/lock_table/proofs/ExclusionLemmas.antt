@@ -11,7 +11,7 @@ use Rattle.lock_table.proofs.MapLemmas.{own_or_other, any_cases, any_later, any_
 same_or_not : (a b : TxId) → (a ≡ b) ⊎ (a ≢ b)
 same_or_not a b = own_or_other b (lock_of a (record { at = 0; length = 0 }))
 
-any_either : {X : Type 0} (P : X → Type 0) (xs ys : List X) → Any P (xs ++ ys) → Any P xs ⊎ Any P ys
+pub any_either : {X : Type 0} (P : X → Type 0) (xs ys : List X) → Any P (xs ++ ys) → Any P xs ⊎ Any P ys
 any_either P [] ys any = inr any
 any_either P (x ∷ xs) ys any = go (any_either P xs ys) (any_cases P x (xs ++ ys) any)
   where

@@ -1,3 +1,4 @@
+mod AnyLemmas
 mod ExclusionLemmas
 mod LeastLemmas
 mod MapLemmas

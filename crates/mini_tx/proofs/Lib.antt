@@ -1,1 +1,4 @@
 pub mod WritingLemmas
+pub mod FreshLemmas
+pub mod FlatLemmas
+pub mod ValidLemmas

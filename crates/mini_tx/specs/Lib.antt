@@ -5,3 +5,5 @@ pub mod Laws
 pub mod VoteLemmas
 pub mod EntryLaws
 pub mod Minitransactions
+pub mod FlatMemory
+pub mod FreshImages

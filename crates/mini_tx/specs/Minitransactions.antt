@@ -1,5 +1,7 @@
 -- What a minitransaction is made of (Aguilera et al., "Sinfonia", SOSP 2007, section 3.1), and when items make none.
-use Rattle.std.specs.Prelude.{◌+◌, ◌==◌, ◌||◌, ◌&&◌, ℕ, Bool, true, false, nat_lt, nat_le, if◌then◌else◌, List, [], ◌∷◌, length, take, Option, Some, None}
+use Rattle.std.specs.Prelude.{◌+◌, ◌==◌, ◌||◌, ◌&&◌, ℕ, Bool, true, false, nat_lt, nat_le, if◌then◌else◌, List, [], ◌∷◌, length, map, take, ◌↔◌, Option, Some, None}
+use Rattle.std.specs.List.{Contains}
+use Rattle.std.specs.List.Sorted.{IsStrictlyIncreasing}
 use Rattle.mini_tx.specs.declared.item.Item.{Item}
 use Rattle.mini_tx.specs.declared.item.Item.TheVariants as item
 use Rattle.mini_tx.specs.declared.mini_fault.MiniFault.{MiniFault}
@@ -75,3 +77,10 @@ refusal items memories size =
     else if nat_lt 512 (length items) then Some fault.TooManyItems
     else if nat_lt 1048576 (bytes_of_all items) then Some fault.TooLarge
     else place_refusal (first_outside memories size 0 items) items
+
+-- ---- participants
+
+-- the numbers are those of the items' memory nodes: each once, in ascending order
+pub record TakePart (items : List Item) (numbers : List ℕ) : Type 0 where
+  pub ascending : IsStrictlyIncreasing numbers
+  pub members : (memory : ℕ) → Contains numbers memory ↔ Contains (map memory_of items) memory

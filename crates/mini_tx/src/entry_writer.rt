@@ -5,6 +5,7 @@ ghost use Rattle.mini_tx.specs.EntryGrammar.{FitsVote, FitsList, FitsNumber, Fit
 use crate::Numbers;
 use crate::cut_id::CutId;
 use crate::entry::Entry;
+use crate::entry_room::room_for;
 use crate::limits::LONGEST;
 use crate::range::{Range, Ranges};
 use crate::tx_id::TxId;
@@ -21,7 +22,7 @@ pub fn write_entry(alloc: Global, entry: &Entry) -> Result<Vec<u8>, NoMemory>
     requires { FitsEntry entry.now }
     ensures { IfOk result (λ bytes. bytes.items ≡ entry_spelling entry.now) }
 {
-    let mut writer = Writer::new(alloc);
+    let mut writer = Writer::with_room(alloc, room_for(entry))?;
     write(entry, &mut writer)?;
     Ok(writer.finish())
 }

@@ -1,3 +1,7 @@
+ghost use Rattle.std.specs.Prelude.{◌≡◌};
+ghost use Rattle.mini_tx.specs.declared.mini_fault.MiniFault.TheVariants.{NoMemory as no_memory};
+
+use sfs_base::NoMemory;
 use std::error::Error;
 use std::fmt;
 
@@ -32,3 +36,11 @@ impl fmt::Display for MiniFault {
 }
 
 impl Error for MiniFault {}
+
+impl From<NoMemory> for MiniFault {
+    ghost from_gives = { λ _ fault. fault ≡ no_memory };
+
+    fn from(_error: NoMemory) -> MiniFault {
+        MiniFault::NoMemory
+    }
+}

@@ -1,4 +1,9 @@
+ghost use Rattle.std.specs.Prelude.{◌≡◌, ◌∷◌, [], IfOk};
+ghost use Rattle.mini_tx.specs.declared.item.Item.TheVariants.{Compare as compare_item, Read as read_item, Write as write_item};
+
 use super::*;
+use sfs_base::Seq;
+use std::alloc::{AllocError, Global};
 use std::test::*;
 
 #[test]
@@ -71,5 +76,244 @@ fn an_entry_that_is_not_filled_up_with_zeros_is_refused(rt: HostRuntime) -> Resu
         0, 4, 0, 0, 0, 1, 9, 0, 0, 1,
     ];
     assert_eq!(rt; read_entry(rt.alloc(), &bytes), Err(EntryFault::Bad));
+    Ok(())
+}
+
+#[test]
+fn a_prepared_entry_is_spelled_and_read(rt: HostRuntime) -> Result<(), Fail> {
+    let reads = one(rt.alloc(), bytes(rt.alloc(), &[1, 2, 3, 4])?)?;
+    let write = WriteAt {
+        at: 8,
+        bytes: bytes(rt.alloc(), &[9])?,
+    };
+    let entry = Entry::Prepared {
+        id: ID,
+        participants: Numbers::from_slice(rt.alloc(), &[0, 1])?,
+        vote: Vote::Granted(reads),
+        ranges: Ranges::from_slice(rt.alloc(), &[Range { at: 8, length: 4 }])?,
+        writes: one(rt.alloc(), write)?,
+    };
+    let spelled = [
+        0, 0, 0, 2, 0, 0, 0, 1, 0, 0, 0, 0, 0, 0, 0, 2, 0, 0, 0, 0, 0, 0, 0, 3, 0, 0, 0, 2, 0, 0,
+        0, 0, 0, 0, 0, 1, 0, 0, 0, 0, 0, 0, 0, 1, 0, 0, 0, 4, 1, 2, 3, 4, 0, 0, 0, 1, 0, 0, 0, 8,
+        0, 0, 0, 4, 0, 0, 0, 1, 0, 0, 0, 8, 0, 0, 0, 1, 9, 0, 0, 0,
+    ];
+    assert_eq!(rt;
+        write_entry(rt.alloc(), &entry)?.as_slice(),
+        spelled.as_slice()
+    );
+    assert_eq!(rt; read_entry(rt.alloc(), &spelled)?, entry);
+    Ok(())
+}
+
+fn bytes(alloc: Global, from: &[u8]) -> Result<Bytes, NoMemory>
+    ensures { IfOk result (λ bytes. bytes ≡ from.now) }
+{
+    Bytes::from_slice(alloc, from)
+}
+
+fn one<T: Drop>(alloc: Global, item: T) -> Result<Seq<T>, NoMemory>
+    ensures { IfOk result (λ list. list ≡ item ∷ []) }
+{
+    let mut list = Seq::new(alloc);
+    list.push(item)?;
+    Ok(list)
+}
+
+fn read(at: u32, length: u32) -> Item
+    ensures { result ≡ read_item 0 at length }
+{
+    Item::Read {
+        memory: 0,
+        at,
+        length,
+    }
+}
+
+fn write(alloc: Global, at: u32, length: usize) -> Result<Item, AllocError> {
+    Ok(Item::Write {
+        memory: 0,
+        at,
+        bytes: Bytes::from(Vec::from_elem(alloc, 7, length)?),
+    })
+}
+
+// How one item is refused, over two memory nodes of 2,000,000 bytes.
+fn alone(alloc: Global, item: Item) -> Result<Option<MiniFault>, NoMemory> {
+    let items = one(alloc, item)?;
+    Ok(Mini::new(alloc, items, 2, 2_000_000).err())
+}
+
+// How two items are refused.
+fn both(alloc: Global, first: Item, second: Item) -> Result<Option<MiniFault>, NoMemory> {
+    let mut items = one(alloc, first)?;
+    items.push(second)?;
+    Ok(Mini::new(alloc, items, 2, 2_000_000).err())
+}
+
+// How so many read items of one byte are refused.
+fn refusal_of_reads(alloc: Global, count: usize) -> Result<Option<MiniFault>, NoMemory> {
+    let mut items = Items::new(alloc);
+    for _ in 0..count {
+        items.push(read(0, 1))?;
+    }
+    Ok(Mini::new(alloc, items, 2, 2_000_000).err())
+}
+
+#[test]
+fn a_minitransaction_has_1_to_512_items(rt: HostRuntime) -> Result<(), Fail> {
+    let alloc = rt.alloc();
+    assert_eq!(rt; refusal_of_reads(alloc, 0)?, Some(MiniFault::Empty));
+    assert_eq!(rt; refusal_of_reads(alloc, 1)?, None);
+    assert_eq!(rt; refusal_of_reads(alloc, 512)?, None);
+    assert_eq!(rt;
+        refusal_of_reads(alloc, 513)?,
+        Some(MiniFault::TooManyItems)
+    );
+    Ok(())
+}
+
+#[test]
+fn the_items_have_at_most_1048576_bytes(rt: HostRuntime) -> Result<(), Fail> {
+    let alloc = rt.alloc();
+    assert_eq!(rt; alone(alloc, read(0, 1_048_576))?, None);
+    assert_eq!(rt;
+        alone(alloc, read(0, 1_048_577))?,
+        Some(MiniFault::TooLarge)
+    );
+    assert_eq!(rt;
+        both(alloc, write(alloc, 0, 1)?, read(0, 1_048_576))?,
+        Some(MiniFault::TooLarge)
+    );
+    assert_eq!(rt; alone(alloc, read(0, u32::MAX))?, Some(MiniFault::TooLarge));
+    Ok(())
+}
+
+#[test]
+fn an_item_lies_within_its_memory_node(rt: HostRuntime) -> Result<(), Fail> {
+    let alloc = rt.alloc();
+    let first = Some(MiniFault::OutOfRange { item: 0 });
+    assert_eq!(rt; alone(alloc, read(1_999_990, 10))?, None);
+    assert_eq!(rt; alone(alloc, read(1_999_991, 10))?, first);
+    assert_eq!(rt; alone(alloc, read(u32::MAX, 1))?, first);
+    assert_eq!(rt; alone(alloc, write(alloc, 0, 0)?)?, first);
+    assert_eq!(rt;
+        both(alloc, read(0, 1), read(0, 0))?,
+        Some(MiniFault::OutOfRange { item: 1 })
+    );
+    let elsewhere = Item::Read {
+        memory: 2,
+        at: 0,
+        length: 1,
+    };
+    assert_eq!(rt; alone(alloc, elsewhere)?, first);
+    Ok(())
+}
+
+#[test]
+fn writes_may_touch_and_not_overlap(rt: HostRuntime) -> Result<(), Fail> {
+    let alloc = rt.alloc();
+    assert_eq!(rt;
+        both(alloc, write(alloc, 4, 4)?, write(alloc, 0, 4)?)?,
+        None
+    );
+    assert_eq!(rt;
+        both(alloc, write(alloc, 4, 4)?, write(alloc, 8, 4)?)?,
+        None
+    );
+    let second = Some(MiniFault::Overlap { item: 1 });
+    assert_eq!(rt;
+        both(alloc, write(alloc, 4, 4)?, write(alloc, 7, 4)?)?,
+        second
+    );
+    assert_eq!(rt;
+        both(alloc, write(alloc, 4, 4)?, write(alloc, 1, 4)?)?,
+        second
+    );
+    assert_eq!(rt; both(alloc, write(alloc, 4, 4)?, read(4, 4))?, None);
+    let compare = Item::Compare {
+        memory: 0,
+        at: 4,
+        bytes: bytes(alloc, &[7])?,
+    };
+    assert_eq!(rt; both(alloc, compare, write(alloc, 4, 4)?)?, None);
+    Ok(())
+}
+
+#[test]
+fn participants_ascend_and_items_stay(rt: HostRuntime) -> Result<(), Fail> {
+    let alloc = rt.alloc();
+    let mut items = Items::new(alloc);
+    for memory in [5, 0, 5, 2] {
+        items.push(Item::Read {
+            memory,
+            at: 0,
+            length: 1,
+        })?;
+    }
+    let given = items.clone()?;
+    match Mini::new(alloc, items, 8, 1) {
+        Ok(mini) => {
+            assert_eq!(rt; mini.participants(), [0, 2, 5].as_slice());
+            assert_eq!(rt; *mini.items(), given);
+        }
+        Err(fault) => assert!(rt; false, "{fault}"),
+    }
+    Ok(())
+}
+
+// Compares the second byte of memory node 1 with `compared`, reads two bytes of memory node 0, and writes 9
+// to the first byte of memory node 1.
+fn sample(alloc: Global, compared: u8) -> Result<Mini, MiniFault>
+    ensures { IfOk result (λ m. m ≡ compare_item 1 1 (compared ∷ []) ∷ read_item 0 1 2 ∷ write_item 1 0 (9 ∷ []) ∷ []) }
+{
+    let mut items = Items::new(alloc);
+    items.push(Item::Compare {
+        memory: 1,
+        at: 1,
+        bytes: bytes(alloc, &[compared])?,
+    })?;
+    items.push(read(1, 2))?;
+    items.push(Item::Write {
+        memory: 1,
+        at: 0,
+        bytes: bytes(alloc, &[9])?,
+    })?;
+    Mini::new(alloc, items, 2, 4)
+}
+
+#[test]
+fn what_matches_is_read_and_written(rt: HostRuntime) -> Result<(), Fail> {
+    let alloc = rt.alloc();
+    let mut flat = [bytes(alloc, &[1, 2, 3, 4])?, bytes(alloc, &[5, 6, 7, 8])?];
+    let mini = sample(alloc, 6).map_err(|_| NoMemory)?;
+    let read = one(alloc, bytes(alloc, &[2, 3])?)?;
+    assert_eq!(rt; perform(alloc, &mini, &mut flat)?, Some(read));
+    assert_eq!(rt; flat[0].as_slice(), [1, 2, 3, 4].as_slice());
+    assert_eq!(rt; flat[1].as_slice(), [9, 6, 7, 8].as_slice());
+    Ok(())
+}
+
+#[test]
+fn what_does_not_match_changes_nothing(rt: HostRuntime) -> Result<(), Fail> {
+    let alloc = rt.alloc();
+    let mut flat = [bytes(alloc, &[1, 2, 3, 4])?, bytes(alloc, &[5, 6, 7, 8])?];
+    let mini = sample(alloc, 7).map_err(|_| NoMemory)?;
+    assert_eq!(rt; perform(alloc, &mini, &mut flat)?, None);
+    assert_eq!(rt; flat[1].as_slice(), [5, 6, 7, 8].as_slice());
+    Ok(())
+}
+
+#[test]
+fn a_fault_tells_its_cause(rt: HostRuntime) -> Result<(), Fail> {
+    let overlap = MiniFault::Overlap { item: 3 };
+    assert_eq!(rt;
+        overlap.to_string(rt.alloc())?.as_str(),
+        "item 3 overlaps an earlier one"
+    );
+    assert_eq!(rt;
+        EntryFault::Bad.to_string(rt.alloc())?.as_str(),
+        "the bytes are no entry of a log"
+    );
     Ok(())
 }
