@@ -10,6 +10,10 @@ use Rattle.disk_model.specs.LogBytes.{entry_bytes, StandsFor}
 abbrev pub IsBeforeOrAfter : ℕ → List (List ℕ) → List ℕ → Content → Type 0
 IsBeforeOrAfter base entries entry image = StandsFor image base entries ⊎ StandsFor image base (entries ++ entry ∷ [])
 
+-- before a place all bytes are the same
+abbrev pub IsSameBelow : ℕ → Content → Content → Type 0
+IsSameBelow base content image = (place : ℕ) → place < base → image place ≡ content place
+
 -- what is written behind the gate: the length, the entry and a closed gate
 abbrev pub sealed : List ℕ → List ℕ
 sealed entry = word (length entry) ++ entry ++ 0 ∷ []
@@ -41,3 +45,10 @@ IsCause Failed failure damage = failure
 IsCause Full failure damage = ⊥
 IsCause (Damaged at) failure damage = damage at
 IsCause NoMemory failure damage = Unit {0}
+
+-- why an entry was not appended: no gate is looked at
+abbrev pub IsAppendFault : LogFault → Type 0
+IsAppendFault Failed = Unit {0}
+IsAppendFault Full = Unit {0}
+IsAppendFault (Damaged at) = ⊥
+IsAppendFault NoMemory = Unit {0}

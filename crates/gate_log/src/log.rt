@@ -1,8 +1,8 @@
 ghost use Rattle.std.specs.Prelude.{◌≡◌, ◌⊎◌, ◌↔◌, ◌+◌, ◌^◌, ◌<◌, ◌≤◌, ℕ, true, false, [], ◌∷◌, ◌++◌, List, length, Some, IsTrue, IfOk, IfErr, OnOk, OnErr, IsErrOf};
 ghost use Rattle.disk_model.specs.Crash.{LeavesOnly, put, settled};
 ghost use Rattle.disk_model.specs.Cause.{FailedFor, IsCounted};
-ghost use Rattle.disk_model.specs.LogBytes.{StandsFor, IsDamaged};
-ghost use Rattle.gate_log.specs.Entries.{IsBeforeOrAfter, IsCause, Opens};
+ghost use Rattle.disk_model.specs.LogBytes.{log_bytes, StandsFor, IsDamaged};
+ghost use Rattle.gate_log.specs.Entries.{IsBeforeOrAfter, IsSameBelow, IsCause, IsAppendFault, Opens};
 
 use crate::extent::Extent;
 use crate::layout::{HEADER_BYTES, OPEN, is_full, seal};
@@ -35,6 +35,7 @@ impl<D: Disk> Log<D> {
         ensures entries { IfOk result (λ loaded. D.tells disk → (D.history disk).now.pending ≡ [] → IsLog D.tells D.history loaded.0 loaded.1) }
         ensures base { IfOk result (λ loaded. base_of loaded.0 ≡ base) }
         ensures ready { IfOk result (λ loaded. has_failed loaded.0 ≡ false) }
+        ensures within { IfOk result (λ loaded. length (log_bytes loaded.1) < 2 ^ 32) }
         ensures refused { IfErr result (λ refusal. IsCause refusal.0 (FailedFor (D.faults disk) (D.faults refusal.1) (D.is_starved refusal.1))
             (λ at. D.tells disk → IsDamaged (D.history disk).now.content base at)) }
 
@@ -95,12 +96,19 @@ impl<D: Disk> Log<D> {
         ensures any_moment { (entries : List (List ℕ)) → IsLog D.tells D.history self.old entries
             → LeavesOnly (D.history (disk_of self.old)) (D.history (disk_of self.new)) (IsBeforeOrAfter (base_of self.old) entries entry.now) }
 
+        // And it leaves the bytes before the log as they are.
+        ensures elsewhere { (entries : List (List ℕ)) → IsLog D.tells D.history self.old entries
+            → LeavesOnly (D.history (disk_of self.old)) (D.history (disk_of self.new))
+            (λ image. IsBeforeOrAfter (base_of self.old) entries entry.now image × IsSameBelow (base_of self.old) (D.history (disk_of self.old)).now.content image) }
+
         ensures full { IsErrOf result LogFault.Full ↔ ((has_failed self.old ≡ false) × (2 ^ 32 ≤ end_of self.old + 5 + length entry.now)) }
         ensures failed { IsErrOf result LogFault.Failed → (has_failed self.old ≡ true)
             ⊎ FailedFor (D.faults (disk_of self.old)) (D.faults (disk_of self.new)) (D.is_starved (disk_of self.new)) }
         ensures shut { IsErrOf result LogFault.Failed → has_failed self.new ≡ true }
         ensures stays_shut { has_failed self.old ≡ true → IsErrOf result LogFault.Failed × (self.new ≡ self.old) }
         ensures refused { OnErr result (IsErrOf result LogFault.Failed ⊎ (self.new ≡ self.old)) }
+        ensures not_damaged { IfErr result IsAppendFault }
+        ensures fine { OnOk result (has_failed self.new ≡ false) }
         ensures base { base_of self.new ≡ base_of self.old }
         ensures kept { OnOk result (D.faults (disk_of self.new) ≡ D.faults (disk_of self.old)) }
         ensures later { D.faults (disk_of self.old) ≤ D.faults (disk_of self.new) }

@@ -7,7 +7,7 @@ use sfs_base::Failed;
 
 /// Writes these bytes and makes them safe. At any moment of it a crash leaves every byte outside their
 /// range as it is.
-pub(crate) fn write_through<D: Disk>(disk: &mut D, at: u64, from: &[u8]) -> Result<(), Failed>
+pub fn write_through<D: Disk>(disk: &mut D, at: u64, from: &[u8]) -> Result<(), Failed>
     requires { at + length from.now < 2 ^ 64 }
     ensures cause { IsCounted (D.faults disk.old) (D.faults disk.new) (D.is_starved disk.old) (D.is_starved disk.new) result }
     ensures tells { D.tells disk.old → D.tells disk.new }

@@ -1,6 +1,6 @@
 use Rattle.std.proofs.Common.{◌≡◌, ◌+◌, ◌^◌, ◌<◌, sym, ◌∙◌, length, false, rules}
 use Rattle.std.specs.Prelude.{is_err}
-use Rattle.gate_log.proofs.LogLemmas.{append_leaves, append_safe, append_stands, append_ends, not_err}
+use Rattle.gate_log.proofs.LogLemmas.{append_leaves, append_elsewhere, append_safe, append_stands, append_ends, not_err}
 use Rattle.gate_log.proofs.log.Log.append.Goals as goal
 
 pub returns-then-is_err-clause-any_moment : goal.returns-then-is_err-clause-any_moment
@@ -33,4 +33,18 @@ returns-clause-any_moment g c entries log =
     let own = c.args.self.now in
     let fits : own.extent.end + 5 + length c.args.entry.now < 2 ^ 32 = search rules in
     append_leaves (g.D.Disk.history own.disk) (g.D.Disk.history c.open_behind.new.disk) own.extent.base own.extent.end entries c.args.entry.now c.deref.result.now
+    log.safe log.stands log.ends fits (c.deref.ensures.value ∙ c.in_ok-bytes.ensures) (c.open_behind.ensures.any_moment log.told)
+
+pub returns-then-is_err-clause-elsewhere : goal.returns-then-is_err-clause-elsewhere
+returns-then-is_err-clause-elsewhere g c entries log =
+    let own = c.args.self.now in
+    let fits : own.extent.end + 5 + length c.args.entry.now < 2 ^ 32 = search rules in
+    append_elsewhere (g.D.Disk.history own.disk) (g.D.Disk.history c.open_behind.new.disk) own.extent.base own.extent.end entries c.args.entry.now c.deref.result.now
+    log.safe log.stands log.ends fits (c.deref.ensures.value ∙ c.in_ok-bytes.ensures) (c.open_behind.ensures.any_moment log.told)
+
+pub returns-clause-elsewhere : goal.returns-clause-elsewhere
+returns-clause-elsewhere g c entries log =
+    let own = c.args.self.now in
+    let fits : own.extent.end + 5 + length c.args.entry.now < 2 ^ 32 = search rules in
+    append_elsewhere (g.D.Disk.history own.disk) (g.D.Disk.history c.open_behind.new.disk) own.extent.base own.extent.end entries c.args.entry.now c.deref.result.now
     log.safe log.stands log.ends fits (c.deref.ensures.value ∙ c.in_ok-bytes.ensures) (c.open_behind.ensures.any_moment log.told)

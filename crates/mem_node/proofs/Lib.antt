@@ -1,0 +1,9 @@
+pub mod ItemLemmas
+pub mod DiskLemmas
+pub mod NodeLemmas
+pub mod RuleLemmas
+pub mod ReplayLemmas
+pub mod LoadLemmas
+pub mod LayLemmas
+pub mod FreshNodeLemmas
+pub mod FormatLemmas

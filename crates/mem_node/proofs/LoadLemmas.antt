@@ -1,0 +1,87 @@
+-- What is found on a disk that is loaded.
+use Rattle.std.proofs.Common.{◌≡◌, ℕ, Bool, List, length, get_or, Result, Ok, Err, sym, ap, subst, ◌∙◌, arith}
+use Rattle.std.specs.Prelude.{◌↔◌, IsTrue, IfOk, IfErr}
+use Rattle.std.proofs.lemmas.Grind.{same_number_lists}
+use Rattle.disk_model.specs.Crash.{Content, History, Holds}
+use Rattle.disk_model.specs.declared.disk.Disk.{Ghosts}
+use Rattle.mem_node.specs.declared.mem_node.MemNode.{MemNode}
+use Rattle.mem_node.specs.declared.node_fault.NodeFault.{NodeFault}
+use Rattle.mem_node.specs.declared.node_fault.NodeFault.TheVariants.{Down, Full, Other, Damaged, NoMemory}
+use Rattle.mem_node.specs.declared.setup.Setup.{Setup}
+use Rattle.mem_node.specs.Header.{header_bytes, IsFormatted}
+use Rattle.mem_node.specs.Disk.{IsReplayFault, IsLoadFault}
+use Rattle.mem_node.specs.Fit.{size_of}
+use Rattle.mem_node.specs.Node.{IsOn, IsSound}
+use Rattle.mem_node.proofs.DiskLemmas.{length-header}
+use Rattle.disk_model.specs.LogBytes as log
+
+-- the header and the mark that were read
+pub formatted_iff : (s : Setup) (content : Content) (found wanted mark : List ℕ) (b : Bool) → Holds content 64 found → length found ≡ 32 → Holds content 128 mark → length mark ≡ 1
+    → wanted ≡ header_bytes s → IsTrue b ↔ ((found ≡ wanted) × (get_or mark 0 0 ≡ 1)) → IsTrue b ↔ IsFormatted s content
+formatted_iff s content found wanted mark b held len marked one is iff = (
+  λ t.
+      let both = iff.0 t in
+      record { header = subst (Holds content 64) (both.0 ∙ is) held; mark = marked.each 0 (omega arith) ∙ both.1 },
+  λ f. iff.1 (
+    same_number_lists found (header_bytes s) (omega (arith, length-header s))
+        (λ k below. sym (held.each k below) ∙ f.header.each k (omega (arith, length-header s)))
+        ∙ sym is,
+    sym (marked.each 0 (omega arith)) ∙ f.mark,
+  ),
+)
+
+-- why a replay was refused, as a refusal of the whole
+load_fault : (fault : NodeFault) (P Q : ℕ → Type 0) (failure other : Type 0) → ((at : ℕ) → P at → Q at) → IsReplayFault fault P → IsLoadFault fault failure other Q
+load_fault Down P Q failure other weaker is = absurd is
+load_fault Full P Q failure other weaker is = absurd is
+load_fault Other P Q failure other weaker is = absurd is
+load_fault (Damaged at) P Q failure other weaker is = weaker at is
+load_fault NoMemory P Q failure other weaker is = tt
+
+pub replay_refused : {X D : Type 0} (result : Result X (NodeFault × D)) (P Q : ℕ → Type 0) (failure : D → Type 0) (other : Type 0) → ((at : ℕ) → P at → Q at)
+    → IfErr result (λ (r : NodeFault × D). IsReplayFault r.0 P) → IfErr result (λ (r : NodeFault × D). IsLoadFault r.0 (failure r.1) other Q)
+replay_refused (Ok x) P Q failure other weaker is = tt
+replay_refused (Err r) P Q failure other weaker is = load_fault r.0 P Q (failure r.1) other weaker is
+
+weaker_fault : (fault : NodeFault) (before failure : Type 0) (other : Type 0) (P Q : ℕ → Type 0) → (before → failure) → ((at : ℕ) → P at → Q at)
+    → IsLoadFault fault before ⊥ P → IsLoadFault fault failure other Q
+weaker_fault Down before failure other P Q same weaker is = same is
+weaker_fault Full before failure other P Q same weaker is = absurd is
+weaker_fault Other before failure other P Q same weaker is = absurd is
+weaker_fault (Damaged at) before failure other P Q same weaker is = weaker at is
+weaker_fault NoMemory before failure other P Q same weaker is = tt
+
+pub load_refused : {X D : Type 0} (result : Result X (NodeFault × D)) (before failure : D → Type 0) (other : Type 0) (P Q : ℕ → Type 0) → ((d : D) → before d → failure d)
+    → ((at : ℕ) → P at → Q at)
+    → IfErr result (λ (r : NodeFault × D). IsLoadFault r.0 (before r.1) ⊥ P) → IfErr result (λ (r : NodeFault × D). IsLoadFault r.0 (failure r.1) other Q)
+load_refused (Ok x) before failure other P Q same weaker is = tt
+load_refused (Err r) before failure other P Q same weaker is = weaker_fault r.0 (before r.1) (failure r.1) other P Q (same r.1) weaker is
+
+-- what was found makes a sound memory node
+module _ {D : Type 0} {G : Ghosts D} (tells : D → Type 0) (history : D → History) (s : Setup) (content : Content) (image : List ℕ) where
+  sound_of : (node : MemNode D G) → IsFormatted s content → length image ≡ size_of s → Holds content 4096 image → node.memory.setup ≡ s
+      → (history node.log.disk).now.content ≡ content → IsOn tells history node image → IsSound tells history node
+  sound_of node formatted sized stored own same on = record {
+    image = image;
+    bytes = on.bytes;
+    logged = on.logged;
+    has = record {
+      formatted = subst (λ (c : Content). IsFormatted node.memory.setup c) (sym same) (subst (λ (t : Setup). IsFormatted t content) (sym own) formatted);
+      sized = sized ∙ ap size_of (sym own);
+      stored = subst (λ (c : Content). Holds c 4096 image) (sym same) stored;
+      log = subst (λ (n : ℕ). log.StandsFor (history node.log.disk).now.content n on.bytes) node.based on.logged.stands;
+    };
+    makes = on.makes;
+  }
+
+  pub all_sound : {E : Type 0} (result : Result (MemNode D G) E) (Told None : Type 0) → (Told → IsFormatted s content) → length image ≡ size_of s → (Told → Holds content 4096 image)
+      → IfOk result (λ (node : MemNode D G). Told → None → IsOn tells history node image) → IfOk result (λ (node : MemNode D G). node.memory.setup ≡ s)
+      → IfOk result (λ (node : MemNode D G). Told → (history node.log.disk).now.content ≡ content)
+      → IfOk result (λ (node : MemNode D G). Told → None → IsSound tells history node)
+  all_sound (Ok node) Told None formatted sized stored on own same =
+      λ told none. sound_of node (formatted told) sized (stored told) own (same told) (on told none)
+  all_sound (Err e) Told None formatted sized stored on own same = tt
+
+pub ok_weaker : {X E : Type 0} (result : Result X E) (P Q : X → Type 0) → ((x : X) → P x → Q x) → IfOk result P → IfOk result Q
+ok_weaker (Ok x) P Q weaker is = weaker x is
+ok_weaker (Err e) P Q weaker is = tt

@@ -1,0 +1,12 @@
+pub mod Identifiers
+pub mod Items
+pub mod State
+pub mod Rules
+pub mod Fit
+pub mod Memory
+pub mod Header
+pub mod Disk
+pub mod Node
+pub mod Fault
+pub mod Format
+pub mod Lay

@@ -1,0 +1,113 @@
+-- A memory node as contracts see it, and how it stands on its disk.
+use Rattle.std.specs.Prelude.{◌≡◌, ◌⊎◌, ◌≤◌, ◌<◌, ◌+◌, ◌^◌, ℕ, Bool, List, [], ◌∷◌, ◌++◌, length, Option, Some, None, Result, OnOk, OnErr, IfErr, IsErrOf}
+use Rattle.disk_model.specs.Cause.{FailedFor}
+use Rattle.disk_model.specs.Crash.{Content, History, LeavesOnly}
+use Rattle.disk_model.specs.declared.disk.Disk.{Ghosts}
+use Rattle.gate_log.specs.declared.log.Log.{Log}
+use Rattle.gate_log.specs.Log.{IsLog, end_of}
+use Rattle.mini_tx.specs.declared.entry.Entry.{Entry}
+use Rattle.mini_tx.specs.declared.placed_item.PlacedItem.{PlacedItem}
+use Rattle.mini_tx.specs.declared.tx_id.TxId.{TxId}
+use Rattle.mini_tx.specs.EntryGrammar.{entry_spelling}
+use Rattle.mem_node.specs.declared.mem_node.MemNode.{MemNode}
+use Rattle.mem_node.specs.declared.node_fault.NodeFault.{NodeFault}
+use Rattle.mem_node.specs.declared.node_fault.NodeFault.TheVariants.{Down, Full, Other, Damaged, NoMemory}
+use Rattle.mem_node.specs.declared.setup.Setup.{Setup}
+use Rattle.mem_node.specs.declared.shut.Shut.{Shut}
+use Rattle.mem_node.specs.declared.shut.Shut.TheVariants as shut
+use Rattle.mem_node.specs.Memory.{state_of, node_with}
+use Rattle.mem_node.specs.State.{State, after_one}
+use Rattle.mem_node.specs.Rules.{Node, Reaction, on_prepare}
+use Rattle.mem_node.specs.Disk.{Has, Makes, StandsFor}
+
+abbrev pub log_of : {D : Type 0} {G : Ghosts D} → MemNode D G → Log D
+log_of node = node.log
+
+abbrev pub node_disk_of : {D : Type 0} {G : Ghosts D} → MemNode D G → D
+node_disk_of node = node.log.disk
+
+abbrev pub setup_of : {D : Type 0} {G : Ghosts D} → MemNode D G → Setup
+setup_of node = node.memory.setup
+
+-- what it took from its log
+abbrev pub node_state_of : {D : Type 0} {G : Ghosts D} → MemNode D G → State
+node_state_of node = state_of node.memory
+
+-- what it has; no cut is held yet
+abbrev pub node_of : {D : Type 0} {G : Ghosts D} → MemNode D G → Node
+node_of node = node_with (state_of node.memory)
+
+-- why it answers nothing until it is loaded again
+abbrev pub shut_of : {D : Type 0} {G : Ghosts D} → MemNode D G → Option Shut
+shut_of node = node.shut
+
+-- the bytes that an entry adds to a log
+abbrev pub appended : Option Entry → List (List ℕ)
+appended None = []
+appended (Some e) = entry_spelling e ∷ []
+
+-- the log has room for it
+abbrev pub HasRoom : {D : Type 0} → Log D → Option Entry → Type 0
+HasRoom log None = Unit {0}
+HasRoom log (Some e) = end_of log + 5 + length (entry_spelling e) < 2 ^ 32
+
+-- the disk below a log stands for this state: nothing is pending there, and the log may be appended to
+pub record IsSoundOn {D : Type 0} (tells : D → Type 0) (history : D → History) (s : Setup) (log : Log D) (state : State) : Type 0 where
+  pub image : List ℕ
+  pub bytes : List (List ℕ)
+  pub logged : IsLog tells history log bytes
+  pub has : Has s (history log.disk).now.content image bytes
+  pub makes : Makes s image bytes state
+
+-- its log makes what it has of this stored image
+pub record IsOn {D : Type 0} {G : Ghosts D} (tells : D → Type 0) (history : D → History) (node : MemNode D G) (image : List ℕ) : Type 0 where
+  pub bytes : List (List ℕ)
+  pub logged : IsLog tells history node.log bytes
+  pub makes : Makes node.memory.setup image bytes (state_of node.memory)
+
+-- its disk stands for what it has
+abbrev pub IsSound : {D : Type 0} {G : Ghosts D} → (D → Type 0) → (D → History) → MemNode D G → Type 0
+IsSound tells history node = IsSoundOn tells history node.memory.setup node.log (state_of node.memory)
+
+-- the disk stands for the state before an entry, or for the one after it
+abbrev pub IsBeforeOrAfter : Setup → State → Option Entry → Content → Type 0
+IsBeforeOrAfter s state e image = StandsFor s image state ⊎ StandsFor s image (after_one state e)
+
+-- what it does with a prepare of which it is the one participant
+abbrev pub reaction_to : {D : Type 0} {G : Ghosts D} → MemNode D G → TxId → List PlacedItem → Reaction
+reaction_to node id items = on_prepare (node_of node) id (node.memory.setup.index ∷ []) items
+
+-- why a message is not handled
+abbrev pub IsVoteFault : NodeFault → Type 0
+IsVoteFault Down = Unit {0}
+IsVoteFault Full = Unit {0}
+IsVoteFault Other = ⊥
+IsVoteFault (Damaged at) = ⊥
+IsVoteFault NoMemory = Unit {0}
+
+-- what a memory node does where a message makes it append this entry, or none
+pub record Handles {D X : Type 0} {G : Ghosts D} (tells : D → Type 0) (history : D → History) (faults : D → ℕ) (starved : D → Bool)
+    (before now : MemNode D G) (entry : Option Entry) (result : Result X NodeFault) : Type 0 where
+  pub setup : now.memory.setup ≡ before.memory.setup
+  -- after Ok it has what the entry makes; after a refusal what it had
+  pub state : OnOk result (state_of now.memory ≡ after_one (state_of before.memory) entry)
+  pub refused : OnErr result (state_of now.memory ≡ state_of before.memory)
+  -- after Ok the entry stands in the log, and is safe: nothing is pending, and the disk stands for what it has
+  pub logged : OnOk result ((bytes : List (List ℕ)) → IsLog tells history before.log bytes → IsLog tells history now.log (bytes ++ appended entry))
+  pub sound : OnOk result (IsSound tells history before → IsSound tells history now)
+  -- a crash at any moment leaves the state before, or the one after
+  pub any_moment : IsSound tells history before
+      → LeavesOnly (history before.log.disk) (history now.log.disk) (IsBeforeOrAfter before.memory.setup (state_of before.memory) entry)
+  -- it answers Down only where the disk failed, now or in an earlier call
+  pub down : IsErrOf result Down → (before.shut ≡ Some shut.Down) ⊎ FailedFor (faults before.log.disk) (faults now.log.disk) (starved now.log.disk)
+  -- and Full exactly where the log has no room for the entry, or had none in an earlier call
+  pub full : IsErrOf result Full → (before.shut ≡ Some shut.Full) ⊎ ¬ HasRoom before.log entry
+  pub full_when : before.shut ≡ None → ¬ HasRoom before.log entry → IsErrOf result Full ⊎ IsErrOf result NoMemory
+  -- after want of memory the log is as before
+  pub no_memory : IsErrOf result NoMemory → (now.log ≡ before.log) × (now.shut ≡ before.shut)
+  pub causes : IfErr result IsVoteFault
+  -- after Down and Full it has to be loaded again
+  pub running : OnOk result (now.shut ≡ None)
+  pub closes : (IsErrOf result Down → now.shut ≡ Some shut.Down) × (IsErrOf result Full → now.shut ≡ Some shut.Full)
+  pub counted : OnOk result (faults now.log.disk ≡ faults before.log.disk)
+  pub later : faults before.log.disk ≤ faults now.log.disk

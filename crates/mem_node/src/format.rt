@@ -1,0 +1,40 @@
+ghost use Rattle.std.specs.Prelude.{◌≡◌, ◌≤◌, [], length, IfOk, OnOk};
+ghost use Rattle.disk_model.specs.Cause.{IsCounted};
+ghost use Rattle.disk_model.specs.Crash.{LeavesOnly};
+ghost use Rattle.mem_node.specs.Format.{IsLaying, IsDone, front_bytes};
+
+use crate::header::{FORMATTED, HEADER_AT, MARK_AT, header};
+use crate::lay::lay;
+use crate::setup::Setup;
+use disk_model::Disk;
+use gate_log::write_through;
+use sfs_base::{Failed, NoMemory};
+use std::alloc::Global;
+
+/// The mark of a disk that is not formatted.
+const UNFORMATTED: u8 = 0;
+
+/// The front of the first page: a selector that names the first half, zeros, and the header.
+pub(crate) fn front(alloc: Global, setup: Setup) -> Result<Vec<u8>, NoMemory>
+    ensures { IfOk result (λ bytes. bytes.items ≡ front_bytes setup) }
+{
+    let mut bytes = vec![in alloc; 0; HEADER_AT as usize]?;
+    bytes.extend_from_slice(&header(alloc, setup)?)?;
+    Ok(bytes)
+}
+
+/// Takes the mark away, writes the front of the first page, the image and a log without entries, and sets
+/// the mark, each step safe before the next.
+pub(crate) fn write_node<D: Disk>(disk: &mut D, front: &[u8], image: &[u8]) -> Result<(), Failed>
+    requires front { length front.now ≤ 128 }
+    requires image { length image.now ≤ 69214208 }
+    ensures cause { IsCounted (D.faults disk.old) (D.faults disk.new) (D.is_starved disk.old) (D.is_starved disk.new) result }
+    ensures tells { D.tells disk.old → D.tells disk.new }
+    ensures ok { OnOk result (D.tells disk.old → (D.history disk.old).now.pending ≡ [] → IsDone front.now image.now (D.history disk.new).now) }
+    ensures any_moment { D.tells disk.old → (D.history disk.old).now.pending ≡ []
+        → LeavesOnly (D.history disk.old) (D.history disk.new) (IsLaying (D.history disk.old).now.content front.now image.now) }
+{
+    write_through(disk, MARK_AT, &[UNFORMATTED])?;
+    lay(disk, front, image)?;
+    write_through(disk, MARK_AT, &[FORMATTED])
+}

@@ -1,0 +1,94 @@
+ghost use Rattle.std.specs.Prelude.{◌≡◌, ◌≤◌, ◌<◌, ◌^◌, ◌↔◌, ℕ, [], length, vec_len, IsTrue, IfOk, IfErr, OnOk};
+ghost use Rattle.disk_model.specs.Crash.{Holds};
+ghost use Rattle.disk_model.specs.Cause.{FailedFor, IsCounted};
+ghost use Rattle.disk_model.specs.LogBytes.{log_bytes};
+ghost use Rattle.mem_node.specs.Header.{IsFormatted};
+ghost use Rattle.mem_node.specs.Fit.{IsSetup, size_of};
+ghost use Rattle.mem_node.specs.Disk.{IsLoadFault, IsReplayFault, IsUnfit, Makes};
+ghost use Rattle.mem_node.specs.Memory.{state_of};
+
+use crate::header::{HEADER_AT, MARK_AT, header, is_mark};
+use crate::memory::Memory;
+use crate::node_fault::NodeFault;
+use crate::replay::replay;
+use crate::setup::Setup;
+use disk_model::{Disk, Entries};
+use fs_layout::Layout;
+use std::alloc::Global;
+
+/// The place of the stored image on the disk.
+pub(crate) const IMAGE_AT: u64 = 4096;
+
+/// The bytes of an image.
+pub(crate) fn image_bytes(setup: Setup) -> u32
+    requires { IsSetup setup }
+    ensures size { result ≡ size_of setup }
+    ensures small { result ≤ 69214208 }
+{
+    Layout {
+        blocks: setup.geometry.blocks,
+        inodes: setup.geometry.inodes,
+    }
+    .image_bytes()
+}
+
+/// Whether the disk is formatted, for this memory node of this cluster.
+fn is_formatted<D: Disk>(alloc: Global, disk: &mut D, setup: Setup) -> Result<bool, NodeFault>
+    ensures told { IfOk result (λ formatted. D.tells disk.old → IsTrue formatted ↔ IsFormatted setup (D.history disk.old).now.content) }
+    ensures refused { IfErr result (λ fault. IsLoadFault fault (FailedFor (D.faults disk.old) (D.faults disk.new) (D.is_starved disk.new)) ⊥ (λ at. ⊥)) }
+    ensures tells { D.tells disk.old → D.tells disk.new }
+    ensures kept { D.tells disk.old → D.history disk.new ≡ D.history disk.old }
+    ensures counted { OnOk result (D.faults disk.new ≡ D.faults disk.old) }
+    ensures later { D.faults disk.old ≤ D.faults disk.new }
+{
+    let wanted = header(alloc, setup)?;
+    let mut found = [0; 32];
+    disk.read(HEADER_AT, &mut found)?;
+    let mut mark = [0; 1];
+    disk.read(MARK_AT, &mut mark)?;
+    Ok(is_mark(&found, &wanted, mark[0]))
+}
+
+/// The image that is stored on this memory node's disk.
+pub(crate) fn stored_image<D: Disk>(
+    alloc: Global,
+    disk: &mut D,
+    setup: Setup,
+) -> Result<Vec<u8>, NodeFault>
+    requires { IsSetup setup }
+    ensures formatted { OnOk result (D.tells disk.old → IsFormatted setup (D.history disk.old).now.content) }
+    ensures stored { IfOk result (λ image. D.tells disk.old → Holds (D.history disk.old).now.content 4096 image.items) }
+    ensures sized { IfOk result (λ image. vec_len image ≡ size_of setup) }
+    ensures refused { IfErr result (λ fault. IsLoadFault fault (FailedFor (D.faults disk.old) (D.faults disk.new) (D.is_starved disk.new))
+        (D.tells disk.old → IsFormatted setup (D.history disk.old).now.content → ⊥) (λ at. ⊥)) }
+    ensures tells { D.tells disk.old → D.tells disk.new }
+    ensures kept { D.tells disk.old → D.history disk.new ≡ D.history disk.old }
+    ensures counted { OnOk result (D.faults disk.new ≡ D.faults disk.old) }
+    ensures later { D.faults disk.old ≤ D.faults disk.new }
+{
+    if !is_formatted(alloc, disk, setup)? {
+        return Err(NodeFault::Other);
+    }
+    let mut image = vec![in alloc; 0; image_bytes(setup) as usize]?;
+    disk.read(IMAGE_AT, &mut image)?;
+    Ok(image)
+}
+
+/// What the entries of a log make of the stored image.
+pub(crate) fn taken(
+    alloc: Global,
+    setup: Setup,
+    image: Vec<u8>,
+    entries: &Entries,
+) -> Result<Memory, NodeFault>
+    requires sized { vec_len image ≡ size_of setup }
+    requires small { vec_len image ≤ 69214208 }
+    requires within { length (log_bytes entries.now) < 2 ^ 32 }
+    ensures made { IfOk result (λ memory. Makes setup image.items entries.now (state_of memory)) }
+    ensures setup { IfOk result (λ memory. memory.setup ≡ setup) }
+    ensures refused { IfErr result (λ fault. IsReplayFault fault (IsUnfit setup image.items entries.now)) }
+{
+    let mut memory = Memory::opened(alloc, setup, image)?;
+    replay(alloc, &mut memory, entries.as_slice())?;
+    Ok(memory)
+}

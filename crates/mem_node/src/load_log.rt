@@ -1,0 +1,74 @@
+ghost use Rattle.std.specs.Prelude.{◌≡◌, ◌≤◌, ◌^◌, ◌<◌, ℕ, false, [], None, length, vec_len, IfOk, IfErr};
+ghost use Rattle.disk_model.specs.Cause.{FailedFor};
+ghost use Rattle.disk_model.specs.Crash.{Holds};
+ghost use Rattle.disk_model.specs.LogBytes.{log_bytes, IsDamaged};
+ghost use Rattle.gate_log.specs.Log.{IsLog, base_of, has_failed, disk_of};
+ghost use Rattle.mem_node.specs.Disk.{IsLoadFault, IsReplayFault, IsUnfit, IsBrokenLog, Makes};
+ghost use Rattle.mem_node.specs.Fit.{size_of};
+ghost use Rattle.mem_node.specs.Memory.{state_of};
+ghost use Rattle.mem_node.specs.Node.{log_of, setup_of, shut_of, node_state_of, node_disk_of, IsOn};
+
+use crate::load::taken;
+use crate::mem_node::MemNode;
+use crate::node_fault::NodeFault;
+use crate::replay::LOG_AT;
+use crate::setup::Setup;
+use disk_model::{Disk, Entries};
+use gate_log::Log;
+use std::alloc::Global;
+
+/// The memory node with this stored image, and the log of this disk.
+pub(crate) fn load_log<D: Disk>(
+    alloc: Global,
+    disk: D,
+    setup: Setup,
+    image: Vec<u8>,
+) -> Result<MemNode<D>, (NodeFault, D)>
+    requires sized { vec_len image ≡ size_of setup }
+    requires small { vec_len image ≤ 69214208 }
+    ensures made { IfOk result (λ node. D.tells disk → (D.history disk).now.pending ≡ [] → IsOn D.tells D.history node image.items) }
+    ensures setup { IfOk result (λ node. setup_of node ≡ setup) }
+    ensures running { IfOk result (λ node. shut_of node ≡ None) }
+    ensures refused { IfErr result (λ refusal. IsLoadFault refusal.0 (FailedFor (D.faults disk) (D.faults refusal.1) (D.is_starved refusal.1)) ⊥
+        (λ at. D.tells disk → (D.history disk).now.pending ≡ [] → IsBrokenLog setup (D.history disk).now.content image.items at)) }
+    ensures same { IfOk result (λ node. D.tells disk → D.tells (node_disk_of node) × (D.history (node_disk_of node) ≡ D.history disk)) }
+    ensures same_err { IfErr result (λ refusal. D.tells disk → D.tells refusal.1 × (D.history refusal.1 ≡ D.history disk)) }
+    ensures kept { IfOk result (λ node. D.faults (node_disk_of node) ≡ D.faults disk) }
+    ensures later { IfErr result (λ refusal. D.faults disk ≤ D.faults refusal.1) }
+{
+    match Log::load(alloc, disk, LOG_AT) {
+        Ok((log, entries)) => replayed(alloc, log, &entries, setup, image),
+        Err((fault, disk)) => Err((NodeFault::from(fault), disk)),
+    }
+}
+
+/// The memory node with this stored image, a log and its entries.
+fn replayed<D: Disk>(
+    alloc: Global,
+    log: Log<D>,
+    entries: &Entries,
+    setup: Setup,
+    image: Vec<u8>,
+) -> Result<MemNode<D>, (NodeFault, D)>
+    requires sized { vec_len image ≡ size_of setup }
+    requires small { vec_len image ≤ 69214208 }
+    requires within { length (log_bytes entries.now) < 2 ^ 32 }
+    requires based { base_of log ≡ 2 ^ 32 }
+    requires ready { has_failed log ≡ false }
+    ensures made { IfOk result (λ node. Makes setup image.items entries.now (node_state_of node)) }
+    ensures log { IfOk result (λ node. log_of node ≡ log) }
+    ensures setup { IfOk result (λ node. setup_of node ≡ setup) }
+    ensures running { IfOk result (λ node. shut_of node ≡ None) }
+    ensures refused { IfErr result (λ refusal. IsReplayFault refusal.0 (IsUnfit setup image.items entries.now)) }
+    ensures disk { IfErr result (λ refusal. refusal.1 ≡ disk_of log) }
+{
+    match taken(alloc, setup, image, entries) {
+        Ok(memory) => Ok(MemNode {
+            alloc,
+            memory,
+            log,
+            shut: None,
+        }),
+        Err(fault) => Err((fault, log.into_disk())),
+    }
+}

@@ -1,0 +1,230 @@
+ghost use Rattle.std.specs.Prelude.{◌≡◌, ◌^◌, ℕ, false, None};
+ghost use Rattle.gate_log.specs.Log.{base_of, has_failed};
+
+use crate::ballot::Ballot;
+use crate::format::{front, write_node};
+use crate::fresh::fresh;
+use crate::load::stored_image;
+use crate::load_log::load_log;
+use crate::memory::Memory;
+use crate::node_fault::NodeFault;
+use crate::setup::Setup;
+use crate::shut::Shut;
+use crate::votes::{copied, entry_of, id_is_typed, is_prepare, vote_is_typed};
+use disk_model::{Disk, Stop};
+use gate_log::Log;
+use mini_tx::{Actor, Entry, Message, NoMemory, PlacedItem, TxId, Vote, write_entry};
+use std::alloc::Global;
+
+/// A memory node: a participant with its redo log.
+#[derive(Debug, Drop)]
+pub struct MemNode<D: Disk> {
+    pub(crate) alloc: Global,
+    pub(crate) memory: Memory,
+    pub(crate) log: Log<D>,
+    /// Why it answers nothing until it is loaded again.
+    pub(crate) shut: Option<Shut>,
+    ghost based: { base_of log ≡ 2 ^ 32 },
+    ghost ready: { shut ≡ None → has_failed log ≡ false },
+}
+
+impl<D: Disk> MemNode<D> {
+    ghost use Rattle.std.specs.Prelude.{◌≤◌, ◌&&◌, [], ◌∷◌, Some, IfOk, IfErr, OnOk, IsErrOf};
+    ghost use Rattle.disk_model.specs.Crash.{LeavesOnly};
+    ghost use Rattle.mem_node.specs.Format.{IsFresh, IsFormatting, IsFormatFault};
+    ghost use Rattle.disk_model.specs.Cause.{FailedFor};
+    ghost use Rattle.mem_node.specs.Header.{IsFormatted};
+    ghost use Rattle.mem_node.specs.Disk.{IsLoadFault, IsBroken};
+    ghost use Rattle.mini_tx.specs.declared.message.Message.TheVariants.{Voted};
+    ghost use Rattle.mini_tx.specs.EntryGrammar.{FitsEntry};
+    ghost use Rattle.mini_tx.specs.Laws.{IsTypedEntry};
+    ghost use Rattle.mem_node.specs.Fit.{IsSetup, IsFit, IsFitMessage, IsFitPrepare, IsBuilt, IsOfCluster, IsPlain, IsCast};
+    ghost use Rattle.mem_node.specs.Fault.{shut_fault};
+    ghost use Rattle.mem_node.specs.Node.{setup_of, node_state_of, node_of, node_disk_of, shut_of, reaction_to, IsSound, Handles};
+    ghost use Rattle.mem_node.specs.Rules.{react, rule_for, is_new, vote_by, entry_of_vote};
+    ghost use Rattle.mem_node.specs.Items.{any_write};
+
+    /// Formats the disk of a memory node: the fresh image, the header and a log without entries, between a
+    /// mark that is taken away before and set after them, each step safe before the next. A crash in it
+    /// leaves a disk that is as it was but for its mark, one that is not formatted, or a fresh one. Nothing
+    /// may be pending on the disk. [`NodeFault::Down`]: the disk failed. [`NodeFault::NoMemory`]: there is
+    /// no memory, and the disk is as it was.
+    pub fn format(alloc: Global, disk: &mut D, setup: Setup) -> Result<(), NodeFault>
+        requires { IsSetup setup }
+        ensures fresh { OnOk result (D.tells disk.old → (D.history disk.old).now.pending ≡ []
+            → IsFresh setup (D.history disk.new).now.content × ((D.history disk.new).now.pending ≡ [])) }
+        ensures any_moment { D.tells disk.old → (D.history disk.old).now.pending ≡ []
+            → LeavesOnly (D.history disk.old) (D.history disk.new) (IsFormatting setup (D.history disk.old).now.content) }
+        ensures refused { IfErr result (λ fault. IsFormatFault fault (FailedFor (D.faults disk.old) (D.faults disk.new) (D.is_starved disk.new))) }
+        ensures tells { D.tells disk.old → D.tells disk.new }
+        ensures kept { OnOk result (D.faults disk.new ≡ D.faults disk.old) }
+        ensures later { D.faults disk.old ≤ D.faults disk.new }
+    {
+        let image = fresh(alloc, setup)?;
+        let front = front(alloc, setup)?;
+        write_node(disk, &front, &image)?;
+        Ok(())
+    }
+
+    /// The memory node of this disk: its stored image, with all that its log made of it. Nothing may be
+    /// pending on the disk. A refused call hands the disk back. [`NodeFault::Down`]: the disk failed.
+    /// [`NodeFault::Other`]: the disk is not formatted, or its header is that of another memory node or
+    /// cluster. [`NodeFault::Damaged`]: the log is damaged, or has an entry that is none, that this memory
+    /// node cannot have written, or that keeps, decides or forgets a record of several participants, which
+    /// is not built; `at` is the place of its gate. [`NodeFault::NoMemory`]: there is no memory.
+    pub fn load(alloc: Global, disk: D, setup: Setup) -> Result<MemNode<D>, (NodeFault, D)>
+        requires { IsSetup setup }
+        // It has what the log that is found makes of the stored image, and the disk stands for that.
+        ensures sound { IfOk result (λ node. D.tells disk → (D.history disk).now.pending ≡ [] → IsSound D.tells D.history node) }
+        ensures setup { IfOk result (λ node. setup_of node ≡ setup) }
+        ensures running { IfOk result (λ node. shut_of node ≡ None) }
+        ensures refused { IfErr result (λ refusal. IsLoadFault refusal.0 (FailedFor (D.faults disk) (D.faults refusal.1) (D.is_starved refusal.1))
+            (D.tells disk → IsFormatted setup (D.history disk).now.content → ⊥)
+            (λ at. D.tells disk → (D.history disk).now.pending ≡ [] → IsBroken setup (D.history disk).now.content at)) }
+
+        // The disk is as it was, so a crash at any moment leaves what it left before.
+        ensures same { IfOk result (λ node. D.tells disk → D.tells (node_disk_of node) × (D.history (node_disk_of node) ≡ D.history disk)) }
+        ensures same_err { IfErr result (λ refusal. D.tells disk → D.tells refusal.1 × (D.history refusal.1 ≡ D.history disk)) }
+        ensures kept { IfOk result (λ node. D.faults (node_disk_of node) ≡ D.faults disk) }
+        ensures later { IfErr result (λ refusal. D.faults disk ≤ D.faults refusal.1) }
+    {
+        let mut disk = disk;
+        match stored_image(alloc, &mut disk, setup) {
+            Ok(image) => load_log(alloc, disk, setup, image),
+            Err(fault) => Err((fault, disk)),
+        }
+    }
+
+    /// The disk. It takes no memory.
+    pub fn stop(self) -> D
+        ensures { result ≡ node_disk_of self }
+    {
+        self.log.into_disk()
+    }
+
+    /// Whether the disk once found no memory. It takes no memory.
+    pub fn starved(&self) -> bool
+        ensures { result ≡ D.is_starved (node_disk_of self.now) }
+    {
+        self.log.starved()
+    }
+
+    /// What the memory node does with a message (`docs/PROMISES.md`, "A memory node"): its answer, where it
+    /// has one. A vote that has an entry leaves only once that entry is safe. The message and its sender are
+    /// of this cluster, and the message is a `prepare` of which this memory node is the one participant, with
+    /// items that are valid together, or none for a memory node: that changes nothing and has no answer.
+    /// [`NodeFault::Down`]: the disk failed. [`NodeFault::Full`]: the vote's entry would end past the log's
+    /// limit. After these two the same is answered until the memory node is loaded again.
+    /// [`NodeFault::NoMemory`]: there is no memory; nothing was voted, and all is as before.
+    pub fn handle(&mut self, from: Actor, message: &Message) -> Result<Option<Message>, NodeFault>
+        requires sender { IsOfCluster (setup_of self.old).geometry from }
+        requires fit { IsFitMessage (setup_of self.old) message.now }
+        requires built { IsBuilt (setup_of self.old) message.now }
+        ensures answer { IfOk result (λ answer. answer ≡ (react (node_of self.old) message.now).answer) }
+        ensures handled { Handles D.tells D.history D.faults D.is_starved self.old self.new (react (node_of self.old) message.now).entry result }
+        ensures shut { (shut : _) → shut_of self.old ≡ Some shut → IsErrOf result (shut_fault shut) × (self.new ≡ self.old) }
+    {
+        let _from = from;
+        if let Some(shut) = self.shut {
+            return Err(shut.fault());
+        }
+        if !is_prepare(message) {
+            return Ok(None);
+        }
+        match message {
+            Message::Prepare { id, items, .. } => {
+                let vote = self.prepare(*id, items.as_slice())?;
+                Ok(Some(Message::Voted { id: *id, vote }))
+            }
+            _ => unreachable!(),
+        }
+    }
+
+    /// Votes on the items of an identifier.
+    fn prepare(&mut self, id: TxId, items: &[PlacedItem]) -> Result<Vote, NodeFault>
+        requires running { shut_of self.old ≡ None }
+        requires fit { IsFitPrepare (setup_of self.old) id ((setup_of self.old).index ∷ []) items.now }
+        ensures answer { IfOk result (λ vote. (reaction_to self.old id items.now).answer ≡ Some (Voted id vote)) }
+        ensures handled { Handles D.tells D.history D.faults D.is_starved self.old self.new (reaction_to self.old id items.now).entry result }
+    {
+        let ballot = self.ballot(id, items)?;
+        if ballot.has_entry {
+            self.cast(id, items, ballot.vote)
+        } else {
+            Ok(ballot.vote)
+        }
+    }
+
+    /// The vote on the items of an identifier.
+    fn ballot(&self, id: TxId, items: &[PlacedItem]) -> Result<Ballot, NoMemory>
+        requires { IsFitPrepare (setup_of self.now) id ((setup_of self.now).index ∷ []) items.now }
+        ensures vote { IfOk result (λ ballot. ballot.vote ≡ vote_by (node_state_of self.now).image items.now (rule_for (node_of self.now) id items.now)) }
+        ensures entry { IfOk result (λ ballot. ballot.has_entry ≡ (is_new (rule_for (node_of self.now) id items.now) && any_write items.now)) }
+    {
+        let rule = self.memory.rule_for(self.alloc, id, items)?;
+        let has_entry = rule.has_entry(items);
+        Ok(Ballot {
+            vote: self.memory.vote_by(self.alloc, rule, items)?,
+            has_entry,
+        })
+    }
+
+    /// Votes on a new identifier, once the vote's entry is safe.
+    fn cast(&mut self, id: TxId, items: &[PlacedItem], vote: Vote) -> Result<Vote, NodeFault>
+        requires running { shut_of self.old ≡ None }
+        requires cast { IsCast (setup_of self.old) id items.now vote }
+        ensures answer { IfOk result (λ told. told ≡ vote) }
+        ensures handled { Handles D.tells D.history D.faults D.is_starved self.old self.new
+            (Some (entry_of_vote id ((setup_of self.old).index ∷ []) items.now vote)) result }
+    {
+        id_is_typed(id);
+        vote_is_typed(&vote);
+        let told = copied(&vote)?;
+        let entry = entry_of(self.alloc, id, items, vote)?;
+        self.take(entry)?;
+        Ok(told)
+    }
+
+    /// Appends the entry of a vote, and then takes it. Where the log refuses it, nothing more is answered.
+    fn take(&mut self, entry: Entry) -> Result<(), NodeFault>
+        requires running { shut_of self.old ≡ None }
+        requires spelled { FitsEntry entry }
+        requires typed { IsTypedEntry entry }
+        requires fit { IsFit (setup_of self.old) (node_state_of self.old) entry }
+        requires plain { IsPlain entry }
+        ensures { Handles D.tells D.history D.faults D.is_starved self.old self.new (Some entry) result }
+    {
+        let bytes = write_entry(self.alloc, &entry)?;
+        if let Err(fault) = self.log.append(&bytes) {
+            self.shut = Shut::by(fault);
+            return Err(NodeFault::from(fault));
+        }
+        self.memory.settle(entry);
+        Ok(())
+    }
+}
+
+impl<D: Disk> MemNode<Stop<D>> {
+    ghost use Rattle.std.specs.Prelude.{◌↔◌, Some, IsTrue};
+    ghost use Rattle.disk_model.specs.Stop.{disk_of as stopped_disk_of, left_of, refused_of};
+    ghost use Rattle.mem_node.specs.Node.{node_disk_of, node_of};
+
+    /// From now on this many writes and syncs pass to the disk below, or all of them. It takes no memory.
+    pub fn stop_after(&mut self, calls: Option<u32>)
+        requires { left_of (node_disk_of self.old) ≡ Some 0 → ⊥ }
+        ensures left { left_of (node_disk_of self.new) ≡ calls }
+        ensures disk { stopped_disk_of (node_disk_of self.new) ≡ stopped_disk_of (node_disk_of self.old) }
+        ensures refused { refused_of (node_disk_of self.new) ≡ refused_of (node_disk_of self.old) }
+        ensures node { node_of self.new ≡ node_of self.old }
+    {
+        self.log.stop_after(calls);
+    }
+
+    /// Whether the stated number of writes and syncs has returned, so that calls are refused until the
+    /// disk is restarted. It takes no memory.
+    pub fn stopped(&self) -> bool
+        ensures { IsTrue result ↔ (left_of (node_disk_of self.now) ≡ Some 0) }
+    {
+        self.log.stopped()
+    }
+}

@@ -1,0 +1,54 @@
+ghost use Rattle.std.specs.Prelude.{◌≡◌, ◌<◌, ◌^◌, length, Ok, IfErr, OnOk};
+ghost use Rattle.disk_model.specs.LogBytes.{log_bytes};
+ghost use Rattle.mini_tx.specs.EntryReading.{entry_of};
+ghost use Rattle.mem_node.specs.Disk.{Makes, IsUnfit, IsReplayFault};
+ghost use Rattle.mem_node.specs.Fit.{size_of, IsFit, IsPlain};
+ghost use Rattle.mem_node.specs.Memory.{state_of};
+ghost use Rattle.mem_node.specs.State.{opened, after_entry};
+
+use crate::memory::Memory;
+use crate::node_fault::NodeFault;
+use mini_tx::{Bytes, EntryFault, read_entry};
+use std::alloc::Global;
+
+/// The place of a memory node's log on its disk.
+pub(crate) const LOG_AT: u64 = 1 << 32;
+
+/// The bytes before an entry in a log: its gate and its length.
+const HEADER_BYTES: u64 = 5;
+
+/// Takes the entry of these bytes, whose gate stands at this place.
+fn take(alloc: Global, memory: &mut Memory, bytes: &[u8], at: u64) -> Result<(), NodeFault>
+    ensures refused { IfErr result (λ fault. IsReplayFault fault
+        (λ place. (place ≡ at) × ((e : _) → entry_of bytes.now ≡ Ok e → IsFit memory.old.setup (state_of memory.old) e × IsPlain e → ⊥))) }
+    ensures taken { OnOk result ((e : _) × (entry_of bytes.now ≡ Ok e) × IsFit memory.old.setup (state_of memory.old) e
+        × (state_of memory.new ≡ after_entry (state_of memory.old) e)) }
+    ensures setup { memory.new.setup ≡ memory.old.setup }
+{
+    let entry = match read_entry(alloc, bytes) {
+        Ok(entry) => entry,
+        Err(EntryFault::Bad) => return Err(NodeFault::Damaged { at }),
+        Err(EntryFault::NoMemory) => return Err(NodeFault::NoMemory),
+    };
+    if !memory.allows(&entry) {
+        return Err(NodeFault::Damaged { at });
+    }
+    memory.settle(entry);
+    Ok(())
+}
+
+/// Takes all entries of a log, in order.
+pub(crate) fn replay(alloc: Global, memory: &mut Memory, entries: &[Bytes]) -> Result<(), NodeFault>
+    requires within { length (log_bytes entries.now) < 2 ^ 32 }
+    requires fresh { state_of memory.old ≡ opened memory.old.setup.geometry.nodes (state_of memory.old).image }
+    ensures refused { IfErr result (λ fault. IsReplayFault fault (IsUnfit memory.old.setup (state_of memory.old).image entries.now)) }
+    ensures made { OnOk result (Makes memory.old.setup (state_of memory.old).image entries.now (state_of memory.new)) }
+    ensures setup { memory.new.setup ≡ memory.old.setup }
+{
+    let mut at = LOG_AT;
+    for bytes in entries {
+        take(alloc, memory, bytes.as_slice(), at)?;
+        at += HEADER_BYTES + bytes.len() as u64;
+    }
+    Ok(())
+}
