@@ -1,32 +1,47 @@
 //! The plain file system: what the whole product means.
 //!
-//! A [`Tree`] is a finite map from file numbers to files. [`Tree::apply`] answers one call and changes
-//! the tree as the file system's rules say; the rules are definitions in `specs/`, procedure by
-//! procedure, in the terms of RFC 1094 (`docs/PROMISES.md`, "The plain tree"). Nothing here knows where
-//! a file's bytes lie. A caller hands in the moment, who calls, and the number for a file that is made.
+//! A [`Tree`] is a file system in memory: a finite map from file numbers to files, which is good at every
+//! moment. [`Tree::respond`] answers one call and changes the tree as the rules of `fs_rules` say, and
+//! tells whether anything changed; [`Tree::apply`] gives the answer alone. Nothing here knows where a
+//! file's bytes lie. A caller hands in the moment, who calls, and the number for a file that is made.
 #![tactic(auto)]
 
-mod content;
-mod entry;
-mod file;
-mod geometry;
-mod handle;
-mod kept;
-mod laws;
+mod attributes;
+mod call_bytes;
+mod calls;
+mod change;
+mod changing;
+mod creating;
+mod directory;
+mod giving;
+mod limits;
+mod linking;
+mod lookup;
+mod making;
+mod making_dir;
+mod naming;
+mod numbers;
+mod procedures;
+mod reading;
+mod removing;
+mod removing_directories;
+mod response;
+mod space;
+mod status;
+mod sym_linking;
+mod taking;
 mod tree;
 
-pub use content::{BLOCK_BYTES, Blocks, Content, REFERENCES_PER_CHAIN, SLOTS_PER_BLOCK, Slots};
-pub use entry::Entry;
-pub use file::File;
-pub use fs_layout::{Attrs, MAX_BLOCKS, MAX_INODES, MAX_MEMORIES, Reference};
-pub use geometry::{Geometry, MAX_NODES};
-pub use handle::handle_of;
-pub use kept::Kept;
-pub use laws::fresh_is_good;
-pub use nfs_proto::{Answer, Call, Fattr, Handle, Sattr, Stamp};
-pub use rpc_msg::Cred;
-pub use sfs_base::{Bytes, NoMemory};
-pub use tree::{ROOT, Tree};
+pub use attributes::MAX_FILE_BYTES;
+pub use calls::is_built;
+pub use fs_rules::{
+    Answer, Attrs, BLOCK_BYTES, Blocks, Bytes, Call, Content, Cred, Entry, Fattr, File, Geometry,
+    Handle, Kept, MAX_BLOCKS, MAX_INODES, MAX_MEMORIES, MAX_NODES, NoMemory, PlainTree,
+    REFERENCES_PER_CHAIN, ROOT, Reference, SLOTS_PER_BLOCK, Sattr, Slots, Stamp, handle_of, may,
+};
+pub use naming::MAX_NAME_BYTES;
+pub use response::{Change, Response};
+pub use tree::Tree;
 
 #[cfg(test)]
 mod tests;

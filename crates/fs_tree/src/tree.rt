@@ -1,72 +1,85 @@
-ghost use Rattle.std.specs.Prelude.{◌≡◌, ℕ, true, IfOk, OnOk, OnErr};
-ghost use Rattle.std.specs.Option.{option_copied};
-ghost use Rattle.fs_tree.specs.Geometry.{IsWithinLimits};
+ghost use Rattle.std.specs.Prelude.{◌≡◌, ℕ, ◌<◌, true, IfOk, OnOk, OnErr};
+ghost use Rattle.nfs_proto.specs.Arguments.{IsFit};
+ghost use Rattle.fs_rules.specs.Geometry.{IsWithinLimits};
+ghost use Rattle.fs_rules.specs.Fresh.{fresh, fresh_root};
+ghost use Rattle.fs_rules.specs.Good.{IsGood};
+ghost use Rattle.fs_rules.specs.Numbers.{first_free};
+ghost use Rattle.fs_rules.specs.Respond.{respond, IsPick, IsTold};
+ghost use Rattle.fs_tree.specs.Calls.{is_built};
+ghost use Rattle.fs_tree.specs.Meets.{Meets};
 
-use crate::content::Content;
-use crate::file::File;
-use crate::geometry::Geometry;
-use crate::handle::{handle_of, number_at};
-use crate::kept::Kept;
-use nfs_proto::{Answer, Call, Handle, Stamp};
-use rpc_msg::Cred;
-use sfs_base::{NoMemory, Seq, Table};
+use crate::call_bytes::call_bytes;
+use crate::numbers::first_free;
+use crate::procedures::carry_out;
+use crate::response::Response;
+use fs_rules::{
+    Answer, Call, Content, Cred, File, Geometry, NoMemory, PlainTree, ROOT, Slots, Stamp,
+};
+use sfs_base::Table;
 use std::alloc::Global;
+use std::marker::Model;
 
-/// The handle is of no file that is there (RFC 1094, section 2.3.1).
-const STALE: u32 = 70;
-
-/// The number of the root directory.
-pub const ROOT: u32 = 1;
-
-/// A plain tree: the files by their numbers, and what free numbers keep. The fields are open, since a
-/// tree is plain data; that it is a file system is the fact `IsGood` of `specs/Good.antt`.
+/// A file system in memory. A contract sees the plain tree, which is good at every moment.
 #[derive(Debug, Drop)]
 pub struct Tree {
-    pub geometry: Geometry,
-    pub files: Table<File>,
-    pub freed: Table<Kept>,
+    pub(crate) plain: PlainTree,
+    alloc: Global,
+}
+
+impl Model for Tree {
+    ghost use Rattle.fs_rules.specs.declared.plain_tree.PlainTree.{PlainTree as Plain};
+    ghost use Rattle.fs_rules.specs.Good.{IsGood};
+    ghost use Rattle.fs_rules.specs.contracts.plain_tree.PlainTree.{the_row};
+
+    ghost Value = { Plain };
+
+    ghost coded = { the_row.coded };
+
+    ghost view = { λ t. t.plain };
+
+    ghost invariant = { λ t. IsGood t.plain };
 }
 
 impl Tree {
-    ghost use Rattle.fs_tree.specs.Fresh.{fresh};
-    ghost use Rattle.fs_tree.specs.Good.{IsGood};
-    ghost use Rattle.fs_tree.specs.Respond.{respond, get_attr, file_of, is_built, IsPick, IsTold};
-
     /// The tree with which a cluster of this size begins: the root alone.
     pub fn fresh(alloc: Global, geometry: Geometry) -> Result<Tree, NoMemory>
         requires { IsWithinLimits geometry }
         ensures fresh { IfOk result (λ t. t ≡ fresh geometry) }
         ensures good { IfOk result IsGood }
     {
-        let root = File {
-            content: Content::Directory {
-                slots: Seq::new(alloc),
-                parent: ROOT,
-            },
-            mode: 0o777,
-            links: 2,
-            uid: 0,
-            gid: 0,
-            size: 0,
-            generation: 1,
-            change: 1,
-            atime: Stamp::ZERO,
-            mtime: Stamp::ZERO,
-            ctime: Stamp::ZERO,
-        };
         let mut files = Table::new(alloc);
-        files.insert(ROOT, root)?;
+        files.insert(ROOT, fresh_root(alloc))?;
         Ok(Tree {
-            geometry,
-            files,
-            freed: Table::new(alloc),
+            plain: PlainTree {
+                geometry,
+                files,
+                freed: Table::new(alloc),
+            },
+            alloc,
         })
+    }
+
+    /// How large the cluster is.
+    pub fn geometry(&self) -> Geometry
+        ensures value { result ≡ self.now.geometry }
+        ensures good { IsGood self.now }
+    {
+        self.plain.geometry
+    }
+
+    /// The number that a new file gets where the search begins at the memory node `start`: its lowest free
+    /// one, else that of the next ones in a circle; `None` exactly where none is free. It takes no memory.
+    pub fn free_number(&self, start: u32) -> Option<u32>
+        requires { start < self.now.geometry.memories }
+        ensures { result ≡ first_free self.now start }
+    {
+        first_free(&self.plain, start)
     }
 
     /// Carries out a call for the caller `cred` at the moment `now`, and answers it as the rules of the
     /// file system say (`docs/FORMATS.md`, "The rules of the file system"). Where the call makes a file,
-    /// `pick` is its number. A good tree stays good. On [`NoMemory`] the tree is as before. The calls that
-    /// are built are NULL, GETATTR, ROOT and WRITECACHE.
+    /// `pick` is its number, which is what [`Tree::free_number`] gives for a memory node. On [`NoMemory`]
+    /// the tree is as before.
     pub fn apply(
         &mut self,
         call: &Call,
@@ -74,43 +87,61 @@ impl Tree {
         now: Stamp,
         pick: Option<u32>,
     ) -> Result<Answer, NoMemory>
-        requires { is_built call.now ≡ true }
-        ensures answer { (start : ℕ) → IsGood self.old → IsPick self.old call.now cred.now now start pick
+        requires built { is_built call.now ≡ true }
+        requires fits { IsFit call.now }
+        requires pick { (start : ℕ) × IsPick self.old call.now cred.now now start pick }
+        ensures answer { (start : ℕ) → IsPick self.old call.now cred.now now start pick
             → IfOk result (λ answer. answer ≡ (respond self.old call.now cred.now now start).answer) }
-        ensures tree { (start : ℕ) → IsGood self.old → IsPick self.old call.now cred.now now start pick
+        ensures tree { (start : ℕ) → IsPick self.old call.now cred.now now start pick
             → OnOk result (self.new ≡ (respond self.old call.now cred.now now start).tree) }
-        ensures good { IsGood self.old → IsGood self.new }
         ensures err { OnErr result (self.new ≡ self.old) }
+        ensures good { IsGood self.new }
         ensures told { IfOk result IsTold }
     {
-        match call {
-            Call::GetAttr { file } => Ok(self.get_attr(file)),
-            // NULL, ROOT and WRITECACHE do nothing; no other call is built.
-            _ => Ok(Answer::Empty),
-        }
+        Ok(self.respond(call, cred, now, pick)?.answer)
     }
 
-    // GETATTR: what a client is told of the file.
-    fn get_attr(&self, handle: &Handle) -> Answer
-        ensures exact { IsGood self.now → result ≡ (get_attr self.now handle.now.0).answer }
-        ensures told { IsTold result }
+    /// Does what [`Tree::apply`] does, and tells beside the answer whether the tree changed, and which file
+    /// was made.
+    pub fn respond(
+        &mut self,
+        call: &Call,
+        cred: &Cred,
+        now: Stamp,
+        pick: Option<u32>,
+    ) -> Result<Response, NoMemory>
+        requires built { is_built call.now ≡ true }
+        requires fits { IsFit call.now }
+        requires pick { (start : ℕ) × IsPick self.old call.now cred.now now start pick }
+        ensures meets { (start : ℕ) → IsPick self.old call.now cred.now now start pick
+            → IfOk result (Meets self.old (respond self.old call.now cred.now now start) self.new) }
+        ensures err { OnErr result (self.new ≡ self.old) }
+        ensures good { IsGood self.new }
+        ensures told { IfOk result (λ r. IsTold r.answer) }
     {
-        match self.file_of(handle) {
-            Some(file) => Answer::Attr(file.fattr(number_at(handle))),
-            None => Answer::Fault(STALE),
-        }
+        call_bytes(call);
+        carry_out(self.alloc, &mut self.plain, call, cred, now, pick)
     }
+}
 
-    // The file that a handle names: it lives, and the handle is that of its number and generation.
-    fn file_of(&self, handle: &Handle) -> Option<&File>
-        ensures { option_copied result ≡ file_of self.now handle.now.0 }
-    {
-        let number = number_at(handle);
-        let file = self.files.get(number)?;
-        if *handle == handle_of(number, file.generation) {
-            Some(file)
-        } else {
-            None
-        }
+// The root alone: a directory of user and group 0 that all may read, write and search.
+fn fresh_root(alloc: Global) -> File
+    ensures { result ≡ fresh_root }
+{
+    File {
+        content: Content::Directory {
+            slots: Slots::new(alloc),
+            parent: ROOT,
+        },
+        mode: 0o777,
+        links: 2,
+        uid: 0,
+        gid: 0,
+        size: 0,
+        generation: 1,
+        change: 1,
+        atime: Stamp::ZERO,
+        mtime: Stamp::ZERO,
+        ctime: Stamp::ZERO,
     }
 }

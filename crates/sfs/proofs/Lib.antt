@@ -2,6 +2,7 @@ pub mod LineLemmas
 pub mod WindowLemmas
 pub mod StreamSteps
 pub mod ReadOn
+pub mod RulesLemmas
 pub mod ReplyLemmas
 pub mod BookLemmas
 pub mod EventLemmas

@@ -2,7 +2,7 @@
 use Rattle.std.proofs.Common.{◌≡◌, ℕ, Bool, true, false, List, [], ◌∷◌, ◌++◌, Option, Some, None, Result, Ok, Err, refl, sym, ap, subst, ◌∙◌, arith}
 use Rattle.std.specs.Prelude.{slice_get, OnOk, IfOk}
 use Rattle.std.specs.Option.{option_map_or}
-use Rattle.fs_tree.specs.Fresh.{fresh}
+use Rattle.fs_rules.specs.Fresh.{fresh}
 use Rattle.schedule_text.specs.Stream.{Puts}
 use Rattle.schedule_text.proofs.StreamLemmas.{Takes-none, Puts-none}
 use Rattle.schedule_text.specs.declared.event.Event.{Event}
@@ -77,8 +77,8 @@ follows_first e behind w opens = record {
     rest = record { ongoing = refl; ended = refl };
     arrivals = opens.1;
     points = opens.2;
-    last = ap Some (sym opens.3.0);
-    good = opens.3.1;
+    trees = refl;
+    last = ap Some (sym opens.3);
     changed = λ k d below. absurd (omega (arith, below));
     ended = λ k d below. absurd (omega (arith, below));
   });

@@ -7,7 +7,7 @@ use Rattle.std.proofs.lemmas.Bool.{le-ltb}
 use Rattle.std.proofs.lemmas.Bool.Decides.{Decides-ltb}
 use Rattle.std.proofs.lemmas.List.{append-nil, length-map, length_push, map-append}
 use Rattle.std.proofs.lemmas.List.Sums.{sum_by-append}
-use Rattle.fs_tree.specs.declared.geometry.Geometry.{Geometry}
+use Rattle.fs_rules.specs.declared.geometry.Geometry.{Geometry}
 use Rattle.schedule_text.specs.Stream.{Puts}
 use Rattle.schedule_text.specs.declared.event.Event.{Event}
 use Rattle.schedule_text.specs.declared.event.Event.TheVariants as event

@@ -1,9 +1,9 @@
 -- What the lines of a transcript say together: the arrivals, the changes and the trees after each of them.
 use Rattle.std.specs.Prelude.{ℕ, zero, suc, ◌+◌, ◌-◌, ◌^◌, ◌==◌, nat_lt, Bool, true, false, ◌&&◌, if◌then◌else◌, List, [], ◌∷◌, ◌++◌, length, slice_get, position, option_map, option_and_then, Option, Some, None, is_some}
-use Rattle.fs_tree.specs.declared.geometry.Geometry.{Geometry}
+use Rattle.fs_rules.specs.declared.geometry.Geometry.{Geometry}
 use Rattle.nfs_proto.specs.declared.stamp.Stamp.{Stamp}
-use Rattle.fs_tree.specs.declared.tree.Tree.{Tree}
-use Rattle.fs_tree.specs.Fresh.{fresh}
+use Rattle.fs_rules.specs.declared.plain_tree.PlainTree.{PlainTree}
+use Rattle.fs_rules.specs.Fresh.{fresh}
 use Rattle.schedule_text.specs.declared.event.Event.{Event}
 use Rattle.schedule_text.specs.declared.event.Event.TheVariants as event
 use Rattle.schedule_text.specs.declared.limits.TheConstants.{MAX_LINES}
@@ -23,7 +23,7 @@ pub record Book : Type 0 where
   pub lines : ℕ  -- the lines of the schedule that were taken
   pub arrivals : List Arrival
   pub points : List ℕ  -- the arrival of each change
-  pub trees : List Tree  -- the opening tree, and the tree after each change
+  pub trees : List PlainTree  -- the opening tree, and the tree after each change
   pub ended : List ℕ  -- the arrivals that have their reply or were dropped
   pub closed : Bool  -- the last line stands
 
@@ -37,7 +37,7 @@ abbrev pub point_of : Book → ℕ → Option ℕ
 point_of book arrival = option_map (λ k. k + 1) (position (λ a. a == arrival) book.points)
 
 -- the tree as it is now
-abbrev pub last_tree : Book → Option Tree
+abbrev pub last_tree : Book → Option PlainTree
 last_tree book = slice_get book.trees (length book.points)
 
 -- before the first line, where the schedule begins with a cluster within the limits, and where it does not
@@ -65,7 +65,7 @@ unfoldable pub next_event : Schedule → Book → Option Event
 next_event schedule book = option_and_then (λ g. if nat_lt book.lines MAX_LINES then option_and_then (come_from g book) (slice_get schedule book.lines) else None) (cluster_of schedule)
 
 -- what an arrival is answered in a tree
-abbrev pub response : Book → ℕ → Tree → Option Effect
+abbrev pub response : Book → ℕ → PlainTree → Option Effect
 response book arrival t = option_and_then (λ a. option_and_then (λ request. effect t request arrival a.moment) (heard a.bytes)) (numbered book.arrivals arrival)
 
 -- one more arrival

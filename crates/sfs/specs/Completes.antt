@@ -1,7 +1,7 @@
 -- Which schedules are read to their end, as a test of their lines alone.
 use Rattle.std.specs.Prelude.{ℕ, ◌+◌, nat_lt, Bool, true, false, ◌&&◌, [], ◌∷◌, drop, Some, None, is_some}
 use Rattle.std.specs.Option.{option_map_or}
-use Rattle.fs_tree.specs.declared.geometry.Geometry.{Geometry}
+use Rattle.fs_rules.specs.declared.geometry.Geometry.{Geometry}
 use Rattle.schedule_text.specs.declared.event.Event.{Event}
 use Rattle.schedule_text.specs.declared.event.Event.TheVariants.{Cluster, Arrive, End}
 use Rattle.schedule_text.specs.declared.limits.TheConstants.{MAX_LINES}

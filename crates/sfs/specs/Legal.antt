@@ -1,7 +1,7 @@
 -- Which transcripts are legal for a schedule: each line is judged by the schedule and the lines before it.
 use Rattle.std.specs.Prelude.{◌≡◌, ◌≢◌, ℕ, ◌+◌, ◌-◌, ◌≤◌, false, List, [], ◌∷◌, ◌++◌, length, slice_get, Contains, Option, Some, None}
 use Rattle.std.specs.List.{flat_map}
-use Rattle.fs_tree.specs.declared.tree.Tree.{Tree}
+use Rattle.fs_rules.specs.declared.plain_tree.PlainTree.{PlainTree}
 use Rattle.schedule_text.specs.declared.drop_why.DropWhy.{DropWhy}
 use Rattle.schedule_text.specs.declared.drop_why.DropWhy.TheVariants as why
 use Rattle.schedule_text.specs.declared.event.Event.TheVariants as event
@@ -41,7 +41,7 @@ pub record Changes (book : Book) (point arrival : ℕ) (made : Option (ℕ × �
   pub running : IsRunning book arrival a
   pub number : point ≡ length book.points + 1
   pub first : point_of book arrival ≡ None
-  pub tree : Tree
+  pub tree : PlainTree
   pub last : last_tree book ≡ Some tree
   pub e : Effect
   pub answered : response book arrival tree ≡ Some e
@@ -51,7 +51,7 @@ pub record Changes (book : Book) (point arrival : ℕ) (made : Option (ℕ × �
 -- the reply to an arrival that made this change is that in the tree before the change; one that made none is answered in
 -- the tree after a number of changes that is not below the number before it came nor above the number so far, and its
 -- call leaves that tree as it is
-abbrev pub HoldsAt : Book → Arrival → Effect → ℕ → Tree → Option ℕ → Type 0
+abbrev pub HoldsAt : Book → Arrival → Effect → ℕ → PlainTree → Option ℕ → Type 0
 HoldsAt book a e at t (Some point) = (at ≡ point) × (slice_get book.trees (point - 1) ≡ Some t)
 HoldsAt book a e at t None = (a.points ≤ at) × (at ≤ length book.points) × (slice_get book.trees at ≡ Some t) × (e.tree ≡ t)
 
@@ -61,7 +61,7 @@ pub record Replies (book : Book) (arrival at : ℕ) (bytes : List ℕ) : Type 0 
   pub running : IsRunning book arrival a
   pub request : Request
   pub heard_as : heard a.bytes ≡ Some request
-  pub tree : Tree
+  pub tree : PlainTree
   pub e : Effect
   pub answered : effect tree request arrival a.moment ≡ Some e
   pub holds : HoldsAt book a e at tree (point_of book arrival)

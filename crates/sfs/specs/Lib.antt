@@ -4,6 +4,7 @@ pub mod Reading
 pub mod LineReader
 pub mod Schedule
 pub mod Reply
+pub mod Outcome
 pub mod Book
 pub mod Legal
 pub mod Completes

@@ -1,47 +1,38 @@
 -- What some bytes are heard as, and what they are answered.
-use Rattle.std.specs.Prelude.{◌≡◌, ℕ, ◌%◌, ◌==◌, true, if◌then◌else◌, List, [], Option, Some, None, Result, Ok, Err}
+use Rattle.std.specs.Prelude.{◌≡◌, ℕ, ◌%◌, ◌==◌, Bool, true, ◌||◌, if◌then◌else◌, List, [], length, Option, Some, None, Result, Ok, Err}
 use Rattle.sfs_xdr.specs.declared.arg_fault.ArgFault.{ArgFault}
 use Rattle.rpc_msg.specs.declared.cred.Cred.{Cred}
 use Rattle.rpc_msg.specs.Messages.{accepted, garbage_arguments}
-use Rattle.rpc_msg.specs.Heard.{Called, Outcome, Call, Refuse, Silent}
+use Rattle.rpc_msg.specs.Heard.{Called, Outcome}
+use Rattle.rpc_msg.specs.Heard as heard_as
 use Rattle.rpc_msg.specs.Hearing.{as_they_are, heard_of}
-use Rattle.nfs_proto.specs.declared.call.Call as call
-use Rattle.nfs_proto.specs.declared.call.Call.TheVariants as variant
+use Rattle.nfs_proto.specs.declared.answer.Answer.{Answer}
+use Rattle.nfs_proto.specs.declared.answer.Answer.TheVariants as answer
+use Rattle.nfs_proto.specs.declared.call.Call.{Call}
 use Rattle.nfs_proto.specs.declared.stamp.Stamp.{Stamp}
-use Rattle.nfs_proto.specs.Arguments.{args_of}
+use Rattle.nfs_proto.specs.Arguments.{procedure_of, args_of, IsFit}
 use Rattle.nfs_proto.specs.Answers.{answer_spelling}
 use Rattle.mount_proto.specs.Mount.{answer_of}
-use Rattle.fs_tree.specs.declared.tree.Tree.{Tree}
-use Rattle.fs_tree.specs.Respond.{Responded, respond, is_built}
-use Rattle.schedule_text.specs.Words.{IsDatagram}
+use Rattle.fs_rules.specs.declared.plain_tree.PlainTree.{PlainTree}
+use Rattle.fs_rules.specs.Respond.{Responded, respond}
+use Rattle.fs_tree.specs.Calls.{is_built}
+use Rattle.schedule_text.specs.Words.{HasDatagramLength}
 use Rattle.sfs.specs.declared.request.Request.{Request}
 use Rattle.sfs.specs.declared.request.Request.TheVariants as request
 
 -- ---- what some bytes are heard as
 
--- what a call of the file system asks for, where it is built: NULL, ROOT and WRITECACHE do nothing (RFC 1094, section 2.2)
-abbrev pub built : ℕ → call.Call → Cred → Option Request
-built xid variant.Null cred = Some (request.Told (accepted xid []))
-built xid (variant.GetAttr file) cred = Some (request.Asked xid (variant.GetAttr file) cred)
-built xid (variant.SetAttr file set) cred = None
-built xid variant.Root cred = Some (request.Told (accepted xid []))
-built xid (variant.Lookup dir name) cred = None
-built xid (variant.ReadLink file) cred = None
-built xid (variant.Read file offset count total) cred = None
-built xid variant.WriteCache cred = Some (request.Told (accepted xid []))
-built xid (variant.Write file begin offset total bytes) cred = None
-built xid (variant.Create dir name set) cred = None
-built xid (variant.Remove dir name) cred = None
-built xid (variant.Rename from from_name to to_name) cred = None
-built xid (variant.Link file dir name) cred = None
-built xid (variant.SymLink dir name path set) cred = None
-built xid (variant.MakeDir dir name set) cred = None
-built xid (variant.RemoveDir dir name) cred = None
-built xid (variant.ReadDir dir cookie count) cred = None
-built xid (variant.StatFs file) cred = None
+-- NULL, ROOT and WRITECACHE, whose numbers these are, do nothing (RFC 1094, section 2.2)
+abbrev pub does_nothing : Call → Bool
+does_nothing call = (procedure_of call == 0) || ((procedure_of call == 3) || (procedure_of call == 7))
+
+-- what a call of the file system asks for, where it is built
+abbrev pub built : ℕ → Call → Cred → Option Request
+built xid call cred =
+    if does_nothing call then Some (request.Told (accepted xid [])) else if is_built call then Some (request.Asked xid call cred) else None
 
 -- what the arguments of a call of NFS ask for; arguments out of form are refused
-abbrev pub with_arguments : ℕ → Cred → Result call.Call ArgFault → Option Request
+abbrev pub with_arguments : ℕ → Cred → Result Call ArgFault → Option Request
 with_arguments xid cred (Ok call) = built xid call cred
 with_arguments xid cred (Err fault) = Some (request.Told (garbage_arguments xid))
 
@@ -62,33 +53,33 @@ asked c = if c.program == 100003 then asked_of_files c else asked_to_mount c
 
 -- what an outcome asks for, where it is built
 abbrev pub requested : Outcome (List ℕ) → Option Request
-requested (Call c) = asked c
-requested (Refuse reply) = Some (request.Told reply)
-requested Silent = Some request.Silent
+requested (heard_as.Call c) = asked c
+requested (heard_as.Refuse reply) = Some (request.Told reply)
+requested heard_as.Silent = Some request.Silent
 
 abbrev pub heard : List ℕ → Option Request
 heard bytes = requested (heard_of as_they_are bytes)
 
--- a reply that is told fits a datagram
+-- a reply that is told has the length of a datagram
 abbrev pub IsSized : Option Request → Type 0
 IsSized None = Unit {0}
-IsSized (Some (request.Told reply)) = IsDatagram reply
+IsSized (Some (request.Told reply)) = HasDatagramLength reply
 IsSized (Some request.Silent) = Unit {0}
 IsSized (Some (request.Asked xid call cred)) = Unit {0}
 
--- a call of the file system is built
+-- a call of the file system is built, and what it names is not too long
 abbrev pub IsBuilt : Option Request → Type 0
 IsBuilt None = Unit {0}
 IsBuilt (Some (request.Told reply)) = Unit {0}
 IsBuilt (Some request.Silent) = Unit {0}
-IsBuilt (Some (request.Asked xid call cred)) = is_built call ≡ true
+IsBuilt (Some (request.Asked xid call cred)) = (is_built call ≡ true) × IsFit call
 
 -- ---- what it is answered
 
 -- the bytes of a reply, the tree that is left, and the number and generation of the file that was made
 pub record Effect : Type 0 where
   pub reply : List ℕ
-  pub tree : Tree
+  pub tree : PlainTree
   pub made : Option (ℕ × ℕ)
 
 -- what the file system answers under this xid
@@ -97,17 +88,19 @@ replied xid r = record { reply = accepted xid (answer_spelling r.answer); tree =
 
 -- what a request is answered where it is the arrival with this number at this moment: a new file's number is searched from
 -- the memory node with the arrival's number on. Nothing, where it gets no reply
-abbrev pub effect : Tree → Request → ℕ → Stamp → Option Effect
+abbrev pub effect : PlainTree → Request → ℕ → Stamp → Option Effect
 effect t (request.Told reply) arrival moment = Some (record { reply = reply; tree = t; made = None })
 effect t request.Silent arrival moment = None
 effect t (request.Asked xid call cred) arrival moment = Some (replied xid (respond t call cred moment (arrival % t.geometry.memories)))
 
--- the reply, where there is one
-abbrev pub reply_in : Option Effect → Option (List ℕ)
-reply_in None = None
-reply_in (Some e) = Some e.reply
-
--- a reply fits a datagram
-abbrev pub IsSizedReply : Option (List ℕ) → Type 0
-IsSizedReply None = Unit {0}
-IsSizedReply (Some reply) = IsDatagram reply
+-- the handle in an answer has its 32 bytes
+abbrev pub HasHandle : Answer → Type 0
+HasHandle answer.Empty = Unit {0}
+HasHandle (answer.Fault status) = Unit {0}
+HasHandle answer.Plain = Unit {0}
+HasHandle (answer.Attr attr) = Unit {0}
+HasHandle (answer.Found file attr) = length file.0 ≡ 32
+HasHandle (answer.Path path) = Unit {0}
+HasHandle (answer.Part attr bytes) = Unit {0}
+HasHandle (answer.Names entries eof) = Unit {0}
+HasHandle (answer.Space tsize bsize blocks bfree bavail) = Unit {0}

@@ -1,7 +1,7 @@
 -- A schedule: what each line of a text says.
 use Rattle.std.specs.Prelude.{ℕ, nat_le, if◌then◌else◌, List, [], ◌∷◌, length, map, Option, Some, None}
-use Rattle.fs_tree.specs.declared.geometry.Geometry.{Geometry}
-use Rattle.fs_tree.specs.Geometry.{within_limits}
+use Rattle.fs_rules.specs.declared.geometry.Geometry.{Geometry}
+use Rattle.fs_rules.specs.Geometry.{within_limits}
 use Rattle.schedule_text.specs.declared.event.Event.{Event}
 use Rattle.schedule_text.specs.declared.event.Event.TheVariants.{Cluster, Arrive, End}
 use Rattle.schedule_text.specs.declared.limits.TheConstants.{MAX_LINE_BYTES}

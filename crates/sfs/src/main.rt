@@ -4,14 +4,17 @@
 //! - [`run`]: the words of the command line, an input and an output, to a status.
 //! - `replay`, `turn`, `ending`: the turns of a replay; `transcript`, `output`: what it writes.
 //! - `schedule_reader`, `line_reader`, `found`: the schedule, line by line.
-//! - `world`, `step`: the plain world, and what an event makes of it; `reply`: the bytes of a reply.
+//! - `world`, `events`, `step`: the plain world, and what an event makes of it; `request`, `outcome`: what
+//!   an arrival asks for, and what it comes to; `reply`: the bytes of a reply.
 //! - `stop`, `status`: what ends a run.
 //! - `standard_input`, `standard_output`: the streams of the process.
 #![tactic(auto)]
 
 mod ending;
+mod events;
 mod found;
 mod line_reader;
+mod outcome;
 mod output;
 mod replay;
 mod reply;

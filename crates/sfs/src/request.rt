@@ -1,11 +1,13 @@
-ghost use Rattle.std.specs.Prelude.{◌≡◌, ◌≤◌, ℕ, List, length, Some, IfOk};
+ghost use Rattle.std.specs.Prelude.{◌≡◌, ◌≤◌, ℕ, List, length, Some, Ok, Err, IfOk};
 ghost use Rattle.sfs_xdr.specs.Items.{words};
+ghost use Rattle.sfs_xdr.specs.declared.arg_fault.ArgFault.TheVariants as fault;
+ghost use Rattle.nfs_proto.specs.Arguments.{args_of, IsFit};
 ghost use Rattle.rpc_msg.specs.Messages.{accepted, garbage_arguments};
 ghost use Rattle.sfs.specs.declared.request.Request.TheVariants as request;
 ghost use Rattle.rpc_msg.specs.Laws.{called_of};
-ghost use Rattle.sfs.specs.Reply.{heard, asked, asked_of_files, asked_to_mount, built, IsSized, IsBuilt};
+ghost use Rattle.sfs.specs.Reply.{heard, asked, asked_of_files, asked_to_mount, built, does_nothing, IsSized, IsBuilt};
 
-use fs_tree::{Call, Cred};
+use fs_tree::{Call, Cred, is_built};
 use mount_proto::ArgFault;
 use nfs_proto::read_args;
 use rpc_msg::{Heard, NFS, RpcCall, read_call, write_garbage, write_reply};
@@ -56,29 +58,32 @@ impl Request {
         ensures sized { IfOk result IsSized }
         ensures built { IfOk result IsBuilt }
     {
-        match read_args(alloc, call.procedure, call.args.as_slice()) {
+        match read_call_of_files(alloc, call.procedure, call.args.as_slice()) {
             Ok(asked) => Request::of_built(alloc, call.xid, asked, call.cred),
             Err(ArgFault::NoMemory) => Err(NoMemory),
             Err(_) => Request::garbage(alloc, call.xid),
         }
     }
 
-    // What a call of the file system asks for: some do nothing, and most are not built.
+    // What a call of the file system asks for: some do nothing, and others may not be built.
     fn of_built(
         alloc: Global,
         xid: u32,
         call: Call,
         cred: Cred,
     ) -> Result<Option<Request>, NoMemory>
+        requires { IsFit call }
         ensures exact { IfOk result (λ request. request ≡ built xid call cred) }
         ensures sized { IfOk result IsSized }
         ensures built { IfOk result IsBuilt }
     {
-        match call {
-            Call::Null | Call::Root | Call::WriteCache => Request::told(alloc, xid, &[]),
-            Call::GetAttr { .. } => Ok(Some(Request::Asked { xid, call, cred })),
-            _ => Ok(None),
+        if does_nothing(&call) {
+            return Request::told(alloc, xid, &[]);
         }
+        if !is_built(&call) {
+            return Ok(None);
+        }
+        Ok(Some(Request::Asked { xid, call, cred }))
     }
 
     // What a call of the mount protocol asks for.
@@ -111,4 +116,21 @@ impl Request {
     {
         Ok(Some(Request::Told(Bytes::from(write_garbage(alloc, xid)?))))
     }
+}
+
+// The call that these arguments of a procedure of NFS spell: what it names is not too long.
+fn read_call_of_files(alloc: Global, procedure: u32, args: &[u8]) -> Result<Call, ArgFault>
+    ensures found { IfOk result (λ call. args_of procedure args.now ≡ Ok call) }
+    ensures no_procedure { result ≡ Err fault.NoProcedure → args_of procedure args.now ≡ Err fault.NoProcedure }
+    ensures garbage { result ≡ Err fault.Garbage → args_of procedure args.now ≡ Err fault.Garbage }
+    ensures fits { IfOk result IsFit }
+{
+    read_args(alloc, procedure, args)
+}
+
+// Whether a call does nothing, whatever the files are (RFC 1094, section 2.2).
+fn does_nothing(call: &Call) -> bool
+    ensures { result ≡ does_nothing call.now }
+{
+    matches!(call, Call::Null | Call::Root | Call::WriteCache)
 }

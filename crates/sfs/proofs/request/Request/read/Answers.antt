@@ -1,4 +1,4 @@
-use Rattle.std.proofs.Common.{◌≡◌, List, ap, subst}
+use Rattle.std.proofs.Common.{subst}
 use Rattle.rpc_msg.specs.declared.heard.Heard.{Heard}
 use Rattle.rpc_msg.specs.Hearing.{outcome}
 use Rattle.rpc_msg.specs.Heard.{AsTheyAre}

@@ -1,5 +1,0 @@
-use Rattle.fs_tree.proofs.FreshLemmas.{fresh_good}
-use Rattle.fs_tree.proofs.laws.fresh_is_good.Goals as goal
-
-pub returns : goal.returns
-returns c = fresh_good

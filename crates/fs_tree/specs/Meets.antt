@@ -1,0 +1,13 @@
+-- That what the code does is what the rules say.
+use Rattle.std.specs.Prelude.{◌≡◌, ◌≢◌, IfSome, IfNone}
+use Rattle.fs_rules.specs.declared.plain_tree.PlainTree.{PlainTree}
+use Rattle.fs_rules.specs.Respond.{Responded}
+use Rattle.fs_tree.specs.declared.response.Response.{Response}
+
+-- a call was answered by the rules, and left their tree; that it changed the tree is told exactly where it did, with the file
+-- that it made
+pub record Meets (old : PlainTree) (r : Responded) (new : PlainTree) (response : Response) : Type 0 where
+  pub answer : response.answer ≡ r.answer
+  pub tree : new ≡ r.tree
+  pub changed : IfSome response.change (λ change. (new ≢ old) × (change.made ≡ r.made))
+  pub unchanged : IfNone response.change (new ≡ old)

@@ -1,0 +1,79 @@
+ghost use Rattle.std.specs.Prelude.{◌≡◌, ◌-◌, ◌^◌, ◌<◌, Some, None, IsSome, IfNone};
+ghost use Rattle.std.specs.FinMap as map;
+ghost use Rattle.nfs_proto.specs.declared.answer.Answer.TheVariants.{Attr};
+ghost use Rattle.fs_rules.specs.Good.{IsGood};
+ghost use Rattle.fs_rules.specs.File.{fattr_of};
+ghost use Rattle.fs_rules.specs.Edits.{changed_at};
+ghost use Rattle.fs_tree.specs.Steps.{Fits, change_limits};
+
+use crate::response::{Change, Response};
+use crate::space::free_blocks;
+use crate::status::{FBIG, NOSPC};
+use fs_rules::{Answer, Blocks, Content, Fattr, File, PlainTree, Stamp};
+use std::alloc::Global;
+
+/// Why a file that was changed so often may not be changed again, or not grow by so many blocks.
+pub(crate) fn limit_failure(tree: &PlainTree, change: u64, rise: usize) -> Option<u32>
+    requires { IsGood tree.now }
+    ensures exact { result ≡ change_limits tree.now change rise }
+    ensures rises { IfNone result (change < 2 ^ 64 - 1) }
+{
+    if change == u64::MAX {
+        return Some(FBIG);
+    }
+    if (free_blocks(tree) as usize) < rise {
+        return Some(NOSPC);
+    }
+    None
+}
+
+/// A file that stands for one that is taken out of a tree for a while. It takes no memory.
+pub(crate) fn placeholder(alloc: Global) -> File {
+    File {
+        content: Content::Regular(Blocks::new(alloc)),
+        mode: 0,
+        links: 0,
+        uid: 0,
+        gid: 0,
+        size: 0,
+        generation: 0,
+        change: 0,
+        atime: Stamp::ZERO,
+        mtime: Stamp::ZERO,
+        ctime: Stamp::ZERO,
+    }
+}
+
+/// Puts a changed file in the place of what stands at its number: its change number rises by one, and the
+/// moment of its change is `now`. The answer is what a client is told of it.
+pub(crate) fn put_changed(tree: &mut PlainTree, number: u32, file: File, now: Stamp) -> Response
+    requires fits { Fits file }
+    requires change { file.change < 2 ^ 64 - 1 }
+    requires there { IsSome (map.get tree.old.files number) }
+    ensures tree { tree.new ≡ record tree.old { files = map.insert tree.old.files number (changed_at now file) } }
+    ensures answer { result.answer ≡ Attr (fattr_of number (changed_at now file)) }
+    ensures change { result.change ≡ Some (record { made = None }) }
+{
+    Response {
+        answer: Answer::Attr(put_file(tree, number, file, now)),
+        change: Some(Change { made: None }),
+    }
+}
+
+/// Does what [`put_changed`] does, and gives what a client is told of the file.
+pub(crate) fn put_file(tree: &mut PlainTree, number: u32, file: File, now: Stamp) -> Fattr
+    requires fits { Fits file }
+    requires change { file.change < 2 ^ 64 - 1 }
+    requires there { IsSome (map.get tree.old.files number) }
+    ensures tree { tree.new ≡ record tree.old { files = map.insert tree.old.files number (changed_at now file) } }
+    ensures attr { result ≡ fattr_of number (changed_at now file) }
+{
+    let file = File {
+        change: file.change + 1,
+        ctime: now,
+        ..file
+    };
+    let attr = file.fattr(number);
+    tree.files.replace(number, file);
+    attr
+}

@@ -1,0 +1,33 @@
+ghost use Rattle.std.specs.Prelude.{◌≡◌, IfSome};
+ghost use Rattle.std.specs.Option.{option_copied};
+ghost use Rattle.std.specs.FinMap as map;
+ghost use Rattle.fs_rules.specs.Good.{IsGood};
+ghost use Rattle.fs_rules.specs.Arguments.{file_of};
+ghost use Rattle.fs_tree.specs.Steps.{Fits};
+
+use fs_rules::{File, Handle, PlainTree, handle_of, number_at};
+
+/// The file that a handle names: it lives, and the handle is that of its number and generation
+/// (`docs/FORMATS.md`, "Handles").
+pub(crate) fn file_of<'a>(tree: &'a PlainTree, handle: &Handle) -> Option<&'a File>
+    requires { IsGood tree.now }
+    ensures value { option_copied result ≡ file_of tree.now handle.now.0 }
+    ensures fits { IfSome result (λ f. Fits f.now) }
+{
+    let number = number_at(handle);
+    let file = file_at(tree, number)?;
+    if *handle == handle_of(number, file.generation) {
+        Some(file)
+    } else {
+        None
+    }
+}
+
+/// The file with a number, if it lives.
+pub(crate) fn file_at(tree: &PlainTree, number: u32) -> Option<&File>
+    requires { IsGood tree.now }
+    ensures value { option_copied result ≡ map.get tree.now.files number }
+    ensures fits { IfSome result (λ f. Fits f.now) }
+{
+    tree.files.get(number)
+}

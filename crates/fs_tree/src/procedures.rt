@@ -1,0 +1,88 @@
+ghost use Rattle.std.specs.Prelude.{◌≡◌, ℕ, true, IfOk, OnErr};
+ghost use Rattle.nfs_proto.specs.Arguments.{IsFit};
+ghost use Rattle.fs_rules.specs.Good.{IsGood};
+ghost use Rattle.fs_rules.specs.Respond.{respond, IsPick};
+ghost use Rattle.fs_tree.specs.Calls.{is_built};
+ghost use Rattle.fs_tree.specs.Meets.{Meets};
+
+use crate::changing::{set_attr, write};
+use crate::creating::create;
+use crate::linking::link;
+use crate::making_dir::make_dir;
+use crate::naming::{lookup, read_dir};
+use crate::reading::{get_attr, read, read_link, stat_fs};
+use crate::removing::remove;
+use crate::removing_directories::remove_dir;
+use crate::response::Response;
+use crate::sym_linking::sym_link;
+use fs_rules::{Answer, Call, Cred, NoMemory, PlainTree, Stamp};
+use std::alloc::Global;
+
+/// Carries out a call over a plain tree, procedure by procedure.
+pub(crate) fn carry_out(
+    alloc: Global,
+    tree: &mut PlainTree,
+    call: &Call,
+    cred: &Cred,
+    now: Stamp,
+    pick: Option<u32>,
+) -> Result<Response, NoMemory>
+    requires built { is_built call.now ≡ true }
+    requires fits { IsFit call.now }
+    requires good { IsGood tree.old }
+    ensures meets { (start : ℕ) → IsPick tree.old call.now cred.now now start pick
+        → IfOk result (Meets tree.old (respond tree.old call.now cred.now now start) tree.new) }
+    ensures err { OnErr result (tree.new ≡ tree.old) }
+{
+    match call {
+        Call::Null | Call::Root | Call::WriteCache => Ok(Response::told(Answer::Empty)),
+        Call::GetAttr { file } => Ok(Response::told(get_attr(tree, file))),
+        Call::SetAttr { file, set } => Ok(set_attr(alloc, tree, file, set, cred, now)),
+        Call::Lookup { dir, name } => Ok(Response::told(lookup(tree, dir, name.as_slice(), cred))),
+        Call::ReadLink { file } => Ok(Response::told(read_link(alloc, tree, file)?)),
+        Call::Read {
+            file,
+            offset,
+            count,
+            ..
+        } => Ok(Response::told(read(alloc, tree, file, *offset, *count, cred)?)),
+        Call::Write {
+            file,
+            offset,
+            bytes,
+            ..
+        } => write(alloc, tree, file, *offset, bytes.as_slice(), cred, now),
+        Call::ReadDir { dir, cookie, count } => {
+            Ok(Response::told(read_dir(alloc, tree, dir, *cookie, *count, cred)?))
+        }
+        Call::StatFs { file } => Ok(Response::told(stat_fs(tree, file))),
+        Call::Create { dir, name, set } => {
+            create(alloc, tree, dir, name.as_slice(), set, cred, now, pick)
+        }
+        Call::MakeDir { dir, name, set } => {
+            make_dir(alloc, tree, dir, name.as_slice(), set, cred, now, pick)
+        }
+        Call::SymLink {
+            dir,
+            name,
+            path,
+            ..
+        } => sym_link(
+            alloc,
+            tree,
+            dir,
+            name.as_slice(),
+            path.as_slice(),
+            cred,
+            now,
+            pick,
+        ),
+        Call::Link { file, dir, name } => {
+            link(alloc, tree, file, dir, name.as_slice(), cred, now)
+        }
+        Call::Remove { dir, name } => remove(alloc, tree, dir, name.as_slice(), cred, now),
+        Call::RemoveDir { dir, name } => remove_dir(alloc, tree, dir, name.as_slice(), cred, now),
+        // A RENAME is not built.
+        Call::Rename { .. } => Ok(Response::told(Answer::Empty)),
+    }
+}
