@@ -52,9 +52,9 @@ blocks_below size blocks = table.retain_keys blocks (λ k. nat_lt (4096 * k) siz
 unfoldable pub cut : ℕ → BlockMap → BlockMap
 cut size blocks =
     option_map_or
-      (λ block. table.insert (blocks_below size blocks) (size / 4096) (zeroed_from (size % 4096) block))
-      (table.get (blocks_below size blocks) (size / 4096))
-      (blocks_below size blocks)
+    (λ block. table.insert (blocks_below size blocks) (size / 4096) (zeroed_from (size % 4096) block))
+    (table.get (blocks_below size blocks) (size / 4096))
+    (blocks_below size blocks)
 
 -- the blocks after the size was set: a smaller one removes the blocks past it and zeroes the rest of the last one, a greater
 -- one stores none

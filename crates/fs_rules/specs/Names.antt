@@ -142,11 +142,11 @@ directory_edits now m =
     if m.from == m.to
     then Changed m.to (unlinked (one_where (replaces m (λ r. is_directory r.content))) (renamed now (take_name (received m) m.from_name) m.to_dir)) ∷ []
     else
-      Changed m.from (unlinked (one_where (moves_directory m)) (without_name now m.from_name m.from_dir))
-      ∷ Changed m.to
-          (unlinked (one_where (replaces m (λ r. is_directory r.content)))
-            (record (renamed now (received m) m.to_dir) { links = m.to_dir.links + one_where (moves_directory m) }))
-      ∷ []
+    Changed m.from (unlinked (one_where (moves_directory m)) (without_name now m.from_name m.from_dir))
+    ∷ Changed m.to
+    (unlinked (one_where (replaces m (λ r. is_directory r.content)))
+    (record (renamed now (received m) m.to_dir) { links = m.to_dir.links + one_where (moves_directory m) }))
+    ∷ []
 
 -- a replaced file loses a link as by REMOVE, or is freed as by RMDIR
 abbrev pub replaced_edits : Move → List Edit
@@ -166,19 +166,19 @@ named_file t d name = option_and_then (λ n. at_number t n None (λ f. Some (n, 
 abbrev pub move_of : PlainTree → ℕ → File → List ℕ → ℕ → File → List ℕ → Option Move
 move_of t a from_dir from_name b to_dir to_name =
     option_map_or
-      (λ s. Some (record {
-        from = a;
-        from_dir = from_dir;
-        from_name = from_name;
-        to = b;
-        to_dir = to_dir;
-        to_name = to_name;
-        source = s.0;
-        source_file = s.1;
-        replaced = named_file t to_dir to_name;
-      }))
-      (named_file t from_dir from_name)
-      None
+    (λ s. Some (record {
+      from = a;
+      from_dir = from_dir;
+      from_name = from_name;
+      to = b;
+      to_dir = to_dir;
+      to_name = to_name;
+      source = s.0;
+      source_file = s.1;
+      replaced = named_file t to_dir to_name;
+    }))
+    (named_file t from_dir from_name)
+    None
 
 -- neither name is "." or "..", and the first is there; two names of the same file change nothing
 unfoldable pub rename_checks : PlainTree → Option Move → List ℕ → List ℕ → List Check

@@ -189,9 +189,16 @@ fn the_first_class_of_a_caller_decides(rt: HostRuntime) -> Result<(), Fail> {
     ];
     for (kind, mode, caller, bits, may_do) in cases {
         let attributes = attributes_of(kind, mode);
-        assert_eq!(rt; may(&attributes, caller, bits), may_do, "at {kind} {mode} {bits}");
+        assert_eq!(rt;
+            may(&attributes, caller, bits),
+            may_do,
+            "at {kind} {mode} {bits}"
+        );
     }
-    assert_eq!(rt; (is_of_group(&further, 8), is_of_group(&other, 8)), (true, false));
+    assert_eq!(rt;
+        (is_of_group(&further, 8), is_of_group(&other, 8)),
+        (true, false)
+    );
     Ok(())
 }
 
@@ -199,6 +206,9 @@ fn the_first_class_of_a_caller_decides(rt: HostRuntime) -> Result<(), Fail> {
 fn a_stranger_has_the_last_bits_of_a_mode(rt: HostRuntime) -> Result<(), Fail> {
     let file = file_with(Content::Regular(blocks_at(rt.alloc(), &[])?));
     let stranger = caller(rt.alloc(), 1_001, 101, &[])?;
-    assert_eq!(rt; (file.may(&stranger, SEARCH), file.may(&stranger, READ)), (true, false));
+    assert_eq!(rt;
+        (file.may(&stranger, SEARCH), file.may(&stranger, READ)),
+        (true, false)
+    );
     Ok(())
 }
