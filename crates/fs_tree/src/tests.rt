@@ -558,3 +558,217 @@ fn only_a_directory_has_names(rt: HostRuntime) {
         Some(20)
     );
 }
+
+// CREATE of a name of the root.
+fn create(alloc: Global, tree: &mut Tree, name: &[u8], cred: &Cred) -> Result<Answer, NoMemory> {
+    let name = Bytes::from_slice(alloc, name)?;
+    if name.len() > 1_024 {
+        return Ok(Answer::Empty);
+    }
+    let call = Call::Create {
+        dir: handle_of(ROOT, 1),
+        name,
+        set: NOTHING,
+    };
+    let pick = pick_for(tree);
+    tree.apply(&call, cred, MOMENT, pick)
+}
+
+// REMOVE of a name of the root.
+fn remove(alloc: Global, tree: &mut Tree, name: &[u8], cred: &Cred) -> Result<Answer, NoMemory> {
+    let name = Bytes::from_slice(alloc, name)?;
+    if name.len() > 1_024 {
+        return Ok(Answer::Empty);
+    }
+    let call = Call::Remove {
+        dir: handle_of(ROOT, 1),
+        name,
+    };
+    let pick = pick_for(tree);
+    tree.apply(&call, cred, MOMENT, pick)
+}
+
+// RMDIR of a name of the root.
+fn remove_dir(
+    alloc: Global,
+    tree: &mut Tree,
+    name: &[u8],
+    cred: &Cred,
+) -> Result<Answer, NoMemory> {
+    let name = Bytes::from_slice(alloc, name)?;
+    if name.len() > 1_024 {
+        return Ok(Answer::Empty);
+    }
+    let call = Call::RemoveDir {
+        dir: handle_of(ROOT, 1),
+        name,
+    };
+    let pick = pick_for(tree);
+    tree.apply(&call, cred, MOMENT, pick)
+}
+
+// LINK of a file at a name of the root.
+fn link_to(
+    alloc: Global,
+    tree: &mut Tree,
+    file: Handle,
+    name: &[u8],
+    cred: &Cred,
+) -> Result<Answer, NoMemory> {
+    let name = Bytes::from_slice(alloc, name)?;
+    if name.len() > 1_024 {
+        return Ok(Answer::Empty);
+    }
+    let call = Call::Link {
+        file,
+        dir: handle_of(ROOT, 1),
+        name,
+    };
+    let pick = pick_for(tree);
+    tree.apply(&call, cred, MOMENT, pick)
+}
+
+#[test]
+fn a_file_stays_until_its_last_name_is_taken(rt: HostRuntime) -> Result<(), Fail> {
+    let alloc = rt.alloc();
+    let mut tree = fresh_tree(alloc)?;
+    let cred = caller(alloc, 7, 9)?;
+    create(alloc, &mut tree, b"a", &cred)?;
+    let file = handle_of(2, 1);
+    assert_eq!(rt;
+        link_to(alloc, &mut tree, file, b"b", &cred)?,
+        Answer::Plain
+    );
+    let linked = tree.plain.files.get(2);
+    assert_eq!(rt; linked.map(|f| (f.links, f.change)), Some((2, 2)));
+    assert_eq!(rt; remove(alloc, &mut tree, b"a", &cred)?, Answer::Plain);
+    let left = tree.plain.files.get(2);
+    assert_eq!(rt; left.map(|f| (f.links, f.change)), Some((1, 3)));
+    assert_eq!(rt; remove(alloc, &mut tree, b"b", &cred)?, Answer::Plain);
+    assert_eq!(rt; tree.plain.files.get(2).is_none(), true);
+    let kept = tree.plain.freed.get(2);
+    assert_eq!(rt; kept.map(|k| (k.generation, k.change)), Some((1, 4)));
+    let root = tree.plain.files.get(ROOT);
+    assert_eq!(rt;
+        root.map(|f| (f.links, f.change, f.size)),
+        Some((2, 5, 4_096))
+    );
+    Ok(())
+}
+
+#[test]
+fn remove_and_rmdir_and_link_have_their_statuses(rt: HostRuntime) -> Result<(), Fail> {
+    let alloc = rt.alloc();
+    let mut tree = fresh_tree(alloc)?;
+    let cred = caller(alloc, 7, 9)?;
+    create(alloc, &mut tree, b"a", &cred)?;
+    let file = handle_of(2, 1);
+    assert_eq!(rt; remove(alloc, &mut tree, b"x", &cred)?, Answer::Fault(2));
+    assert_eq!(rt; remove(alloc, &mut tree, b"..", &cred)?, Answer::Fault(21));
+    assert_eq!(rt;
+        remove_dir(alloc, &mut tree, b"x", &cred)?,
+        Answer::Fault(2)
+    );
+    assert_eq!(rt;
+        remove_dir(alloc, &mut tree, b".", &cred)?,
+        Answer::Fault(13)
+    );
+    assert_eq!(rt;
+        remove_dir(alloc, &mut tree, b"a", &cred)?,
+        Answer::Fault(20)
+    );
+    let root = handle_of(ROOT, 1);
+    assert_eq!(rt;
+        link_to(alloc, &mut tree, root, b"b", &cred)?,
+        Answer::Fault(1)
+    );
+    assert_eq!(rt;
+        link_to(alloc, &mut tree, file, b"a", &cred)?,
+        Answer::Fault(17)
+    );
+    assert_eq!(rt;
+        link_to(alloc, &mut tree, file, b"/", &cred)?,
+        Answer::Fault(13)
+    );
+    Ok(())
+}
+
+// WRITE to a file of at most as many bytes as one may have.
+fn write(
+    alloc: Global,
+    tree: &mut Tree,
+    file: Handle,
+    offset: u32,
+    bytes: &[u8],
+    cred: &Cred,
+) -> Result<Answer, NoMemory> {
+    let bytes = Bytes::from_slice(alloc, bytes)?;
+    if bytes.len() > 8_192 {
+        return Ok(Answer::Empty);
+    }
+    let call = Call::Write {
+        file,
+        begin: 0,
+        offset,
+        total: 0,
+        bytes,
+    };
+    let pick = pick_for(tree);
+    tree.apply(&call, cred, MOMENT, pick)
+}
+
+// How many bytes a READ of a file gives.
+fn read(
+    tree: &mut Tree,
+    file: Handle,
+    offset: u32,
+    count: u32,
+    cred: &Cred,
+) -> Result<Option<usize>, NoMemory> {
+    let call = Call::Read {
+        file,
+        offset,
+        count,
+        total: 0,
+    };
+    let pick = pick_for(tree);
+    match tree.apply(&call, cred, MOMENT, pick)? {
+        Answer::Part { bytes, .. } => Ok(Some(bytes.len())),
+        _ => Ok(None),
+    }
+}
+
+// The offset and the count of a READ of 12,292 bytes, and how many it gives.
+const READS: [(u32, u32, usize); 7] = [
+    (0, 0, 0),
+    (0, 1, 1),
+    (0, 8_192, 8_192),
+    (0, 8_193, 8_192),
+    (12_288, u32::MAX, 4),
+    (12_292, 1, 0),
+    (u32::MAX, 1, 0),
+];
+
+#[test]
+fn a_file_is_written_and_read(rt: HostRuntime) -> Result<(), Fail> {
+    let alloc = rt.alloc();
+    let mut tree = fresh_tree(alloc)?;
+    let cred = caller(alloc, 7, 9)?;
+    create(alloc, &mut tree, b"a", &cred)?;
+    let file = handle_of(2, 1);
+    write(alloc, &mut tree, file, 4_094, b"abcd", &cred)?;
+    write(alloc, &mut tree, file, 12_288, b"efgh", &cred)?;
+    let written = tree.plain.files.get(2);
+    assert_eq!(rt;
+        written.map(|f| (f.size, f.change, f.content.used())),
+        Some((12_292, 3, 4))
+    );
+    for (offset, count, given) in READS {
+        assert_eq!(rt;
+            read(&mut tree, file, offset, count, &cred)?,
+            Some(given),
+            "at {offset} {count}"
+        );
+    }
+    Ok(())
+}
