@@ -30,7 +30,8 @@ use Rattle.fs_laws.proofs.WholeLemmas.{whole_from_good}
 use Rattle.fs_laws.proofs.DirLemmas.{IsDir, dir_content, dir_list, renamed_dir}
 use Rattle.fs_laws.proofs.LinkLemmas.{plain_content, IsFile, file_apart}
 use Rattle.fs_tree.specs.Steps.{refused, named, named_row, directory_row}
-use Rattle.fs_tree.specs.Linking.{blocks_for, link_limits, MayLink}
+use Rattle.fs_tree.specs.Linking.{link_limits, MayLink}
+use Rattle.fs_tree.specs.Makes.{used_by}
 use Rattle.fs_tree.proofs.RespondLemmas.{named_there}
 use Rattle.fs_tree.proofs.DirectoryLemmas.{named_there as row_there}
 use Rattle.fs_tree.proofs.ChangeLemmas.{arguments_fail, check_fails, limit_fails, all_pass}
@@ -147,15 +148,15 @@ module _ (t : PlainTree) (file dir : Handle) (name : List ℕ) (cred : Cred) (no
         content : (with_name now name m d).content ≡ Directory (put_name (slots_of d.content) e) parent
         content = (renamed_dir now (put_name (slots_of d.content) e) d parent at_dir.content).content
 
-        rises : sum_by (rise t) (Changed n (with_name now name m d) ∷ Changed m (linked f) ∷ []) ≡ blocks_for (length (put_name (slots_of d.content) e)) - used d.content
+        rises : sum_by (rise t) (Changed n (with_name now name m d) ∷ Changed m (linked f) ∷ []) ≡ used_by (length (put_name (slots_of d.content) e)) - used d.content
         rises =
             let first = sum_by-cons (rise t) (Changed n (with_name now name m d)) (Changed m (linked f) ∷ []) in
             let second = sum_by-cons (rise t) (Changed m (linked f)) [] in
             let old : used_at t n ≡ used d.content = ap (λ (o : Option File). option_map_or (λ f. used f.content) o 0) live in
             let same : used_at t m ≡ used f.content = ap (λ (o : Option File). option_map_or (λ f. used f.content) o 0) is_file.there in
-            let after : used (with_name now name m d).content ≡ blocks_for (length (put_name (slots_of d.content) e)) = ap used content in
-            let grown : used (with_name now name m d).content - used_at t n ≡ blocks_for (length (put_name (slots_of d.content) e)) - used d.content =
-            ap (λ (u : ℕ). u - used_at t n) after ∙ ap (λ (u : ℕ). blocks_for (length (put_name (slots_of d.content) e)) - u) old in
+            let after : used (with_name now name m d).content ≡ used_by (length (put_name (slots_of d.content) e)) = ap used content in
+            let grown : used (with_name now name m d).content - used_at t n ≡ used_by (length (put_name (slots_of d.content) e)) - used d.content =
+            ap (λ (u : ℕ). u - used_at t n) after ∙ ap (λ (u : ℕ). used_by (length (put_name (slots_of d.content) e)) - u) old in
             let still : used f.content - used_at t m ≡ 0 = omega (arith, same) in
             omega (arith, first, second, grown, still)
 
@@ -181,7 +182,7 @@ module _ (t : PlainTree) (file dir : Handle) (name : List ℕ) (cred : Cred) (no
         pub may_link : link_limits t f d (length (put_name (slots_of d.content) e)) ≡ None → d.change < 2 ^ 64 - 1 → f.change < 2 ^ 64 - 1 → MayLink t file dir name cred now start
         may_link none dir_rises file_rises =
             let slots = length (put_name (slots_of d.content) e) in
-            let tests = none_fails (eqb d.change (2 ^ 64 - 1) || eqb f.change (2 ^ 64 - 1)) (ltb 32000 (f.links + 1)) (ltb 7650 slots) (ltb (free_blocks t) (blocks_for slots - used d.content)) none in
+            let tests = none_fails (eqb d.change (2 ^ 64 - 1) || eqb f.change (2 ^ 64 - 1)) (ltb 32000 (f.links + 1)) (ltb 7650 slots) (ltb (free_blocks t) (used_by slots - used d.content)) none in
             let few : f.links + 1 ≤ 32000 = ltb-false 32000 (f.links + 1) tests.0 in
             record {
               d = d;

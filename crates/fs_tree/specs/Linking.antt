@@ -8,24 +8,21 @@ use Rattle.nfs_proto.specs.declared.stamp.Stamp.{Stamp}
 use Rattle.fs_rules.specs.declared.file.File.{File}
 use Rattle.fs_rules.specs.declared.plain_tree.PlainTree.{PlainTree}
 use Rattle.fs_rules.specs.Handle.{number_in}
-use Rattle.fs_rules.specs.File.{used, slots_of, is_directory, chains_up_to, last_of}
+use Rattle.fs_rules.specs.File.{used, slots_of, is_directory}
 use Rattle.fs_rules.specs.Numbers.{free_blocks}
 use Rattle.fs_rules.specs.Slots.{put_name}
 use Rattle.fs_rules.specs.Statuses.{Check, fbig, nospc}
 use Rattle.fs_rules.specs.Edits.{Changed}
 use Rattle.fs_rules.specs.Making.{with_name, linked}
 use Rattle.fs_rules.specs.Respond.{decided, respond}
-
--- how many blocks a directory with so many slots uses
-abbrev pub blocks_for : ℕ → ℕ
-blocks_for slots = slots / 15 + chains_up_to (last_of (slots / 15))
+use Rattle.fs_tree.specs.Makes.{used_by}
 
 -- the limits of a name that is given to the file f in the directory d, which has so many slots then
 abbrev pub link_limits : PlainTree → File → File → ℕ → Check
 link_limits t f d slots =
     if (d.change == 2 ^ 64 - 1) || (f.change == 2 ^ 64 - 1)
     then Some fbig
-    else if nat_lt 32000 (f.links + 1) || (nat_lt 7650 slots || nat_lt (free_blocks t) (blocks_for slots - used d.content))
+    else if nat_lt 32000 (f.links + 1) || (nat_lt 7650 slots || nat_lt (free_blocks t) (used_by slots - used d.content))
     then Some nospc
     else None
 

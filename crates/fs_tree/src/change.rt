@@ -6,6 +6,7 @@ ghost use Rattle.fs_rules.specs.File.{fattr_of};
 ghost use Rattle.fs_rules.specs.Edits.{changed_at};
 ghost use Rattle.fs_tree.specs.Steps.{Fits, change_limits};
 
+use crate::limits::is_last;
 use crate::response::{Change, Response};
 use crate::space::free_blocks;
 use crate::status::{FBIG, NOSPC};
@@ -18,7 +19,7 @@ pub(crate) fn limit_failure(tree: &PlainTree, change: u64, rise: usize) -> Optio
     ensures exact { result ≡ change_limits tree.now change rise }
     ensures rises { IfNone result (change < 2 ^ 64 - 1) }
 {
-    if change == u64::MAX {
+    if is_last(change) {
         return Some(FBIG);
     }
     if (free_blocks(tree) as usize) < rise {

@@ -1,4 +1,4 @@
-ghost use Rattle.std.specs.Prelude.{◌≡◌, ◌+◌, ◌-◌, ◌/◌, ◌^◌, ◌<◌, ℕ, length, true, IfOk, IfSome, IfNone, OnErr, nat_lt};
+ghost use Rattle.std.specs.Prelude.{◌≡◌, ◌+◌, ◌-◌, ◌/◌, ◌^◌, ◌<◌, ◌≤◌, ℕ, length, true, IfOk, IfSome, IfNone, OnErr, nat_lt};
 ghost use Rattle.nfs_proto.specs.declared.call.Call.TheVariants.{Link};
 ghost use Rattle.nfs_proto.specs.declared.stamp.Stamp.{Stamp as AStamp};
 ghost use Rattle.fs_rules.specs.Good.{IsGood};
@@ -9,21 +9,19 @@ ghost use Rattle.fs_rules.specs.Names.{link_checks};
 ghost use Rattle.fs_rules.specs.Respond.{respond};
 ghost use Rattle.fs_tree.specs.Meets.{Meets};
 ghost use Rattle.fs_tree.specs.Steps.{refused};
-ghost use Rattle.fs_tree.specs.Linking.{blocks_for, link_limits, MayLink};
+ghost use Rattle.fs_tree.specs.Linking.{link_limits, MayLink};
+ghost use Rattle.fs_tree.specs.Makes.{used_by};
 
 use crate::directory::directory_of;
 use crate::giving::give_one;
 use crate::limits::{MAX_LINKS, MAX_SLOTS, is_last};
 use crate::lookup::file_of;
-use crate::making::slots_with;
+use crate::making::{slots_with, used_by};
 use crate::naming::{is_dots, number_named};
 use crate::response::{Change, Response};
 use crate::space::free_blocks;
 use crate::status::{ACCES, EXIST, FBIG, NOSPC, PERM, STALE};
-use fs_rules::{
-    Answer, Content, Cred, File, Handle, NoMemory, PlainTree, SLOTS_PER_BLOCK, Stamp, chains_up_to,
-    number_at,
-};
+use fs_rules::{Answer, Content, Cred, File, Handle, NoMemory, PlainTree, Stamp, number_at};
 use std::alloc::Global;
 
 /// LINK: gives a file, which is no directory, a new name (RFC 1094, section 2.2.13).
@@ -107,16 +105,9 @@ fn limit_failure(tree: &PlainTree, file: &File, dir: &File, slots: usize) -> Opt
 
 // Whether there are too few free blocks for a directory with so many slots.
 fn is_full(tree: &PlainTree, dir: &File, slots: usize) -> bool
-    requires { IsGood tree.now }
-    ensures { result ≡ nat_lt (free_blocks tree.now) (blocks_for slots - used dir.now.content) }
+    requires good { IsGood tree.now }
+    requires few { slots ≤ 7650 }
+    ensures { result ≡ nat_lt (free_blocks tree.now) (used_by slots - used dir.now.content) }
 {
-    (free_blocks(tree) as usize) < blocks_for(slots).saturating_sub(dir.content.used())
-}
-
-// How many blocks a directory with so many slots uses.
-fn blocks_for(slots: usize) -> usize
-    ensures { result ≡ blocks_for slots }
-{
-    let count = slots / SLOTS_PER_BLOCK;
-    count + chains_up_to(count.checked_sub(1))
+    (free_blocks(tree) as usize) < used_by(slots).saturating_sub(dir.content.used())
 }

@@ -12,7 +12,7 @@ ghost use Rattle.fs_tree.specs.Makes.{is_pick, used_by, made_limits, taking, Can
 
 use crate::attributes::{MODE_VALUES, chosen_moment, is_set};
 use crate::change::placeholder;
-use crate::limits::{MAX_LINKS, MAX_SLOTS};
+use crate::limits::{MAX_LINKS, MAX_SLOTS, is_last};
 use crate::numbers::is_pick;
 use crate::space::free_blocks;
 use crate::status::{FBIG, NOSPC};
@@ -41,7 +41,7 @@ pub(crate) fn place_for(
     ensures rises { OnOk result (dir.now.change < 2 ^ 64 - 1) }
     ensures err { is_directory dir.now.content ≡ true → IfErr result (λ status. made_limits tree.now dir.now links slots more pick ≡ Some status) }
 {
-    if !can_rise(dir.change) {
+    if is_last(dir.change) {
         return Err(FBIG);
     }
     if links > MAX_LINKS || slots > MAX_SLOTS || !is_pick(tree, pick) {
@@ -54,16 +54,8 @@ pub(crate) fn place_for(
     }
 }
 
-// Whether a change number can still rise.
-fn can_rise(change: u64) -> bool
-    ensures exact { result ≡ not (change == 2 ^ 64 - 1) }
-    ensures rises { result ≡ true → change < 2 ^ 64 - 1 }
-{
-    change != u64::MAX
-}
-
-// How many blocks a directory with so many slots uses.
-fn used_by(slots: usize) -> usize
+/// How many blocks a directory with so many slots uses.
+pub(crate) fn used_by(slots: usize) -> usize
     requires { slots ≤ 7650 }
     ensures exact { result ≡ used_by slots }
     ensures few { result ≤ 512 }
