@@ -107,32 +107,13 @@ fn without_name(dir: File, name: &[u8], links: u32, now: Stamp) -> File
     requires links { CanLose links dir }
     ensures { result ≡ unlinked links (without_name now name.now dir) }
 {
-    let File {
-        content,
-        mode,
-        links: count,
-        uid,
-        gid,
-        size: _,
-        generation,
-        change,
-        atime,
-        mtime: _,
-        ctime,
-    } = dir;
-    let (content, size) = emptied(content, name);
+    let (content, size) = emptied(dir.content, name);
     File {
         content,
-        mode,
-        links: count - links,
-        uid,
-        gid,
+        links: dir.links - links,
         size,
-        generation,
-        change,
-        atime,
         mtime: now,
-        ctime,
+        ..dir
     }
 }
 
