@@ -7,6 +7,6 @@ pub mod Steps
 pub mod Taking
 pub mod Removing
 pub mod Linking
-pub mod Calls
 pub mod Meets
 pub mod Makes
+pub mod Moving

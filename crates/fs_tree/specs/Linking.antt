@@ -1,5 +1,5 @@
 -- How LINK goes.
-use Rattle.std.specs.Prelude.{◌≡◌, ◌≢◌, ℕ, ◌+◌, ◌-◌, ◌/◌, ◌^◌, ◌<◌, ◌≤◌, ◌==◌, nat_lt, true, ◌||◌, if◌then◌else◌, List, [], ◌∷◌, length, Some, None}
+use Rattle.std.specs.Prelude.{◌≡◌, ◌≢◌, ℕ, ◌+◌, ◌-◌, ◌^◌, ◌<◌, ◌≤◌, ◌==◌, nat_lt, true, ◌||◌, if◌then◌else◌, List, [], ◌∷◌, length, Some, None}
 use Rattle.std.specs.FinMap.{get}
 use Rattle.rpc_msg.specs.declared.cred.Cred.{Cred}
 use Rattle.nfs_proto.specs.declared.call.Call.TheVariants.{Link}

@@ -138,40 +138,15 @@ fn with_bytes(
     ensures ok { is_directory file.content ≡ false → IfOk result (λ f. f ≡ with_bytes now offset bytes.now file) }
     ensures err { IfErr result (λ f. f ≡ file) }
 {
-    let File {
-        content,
-        mode,
-        links,
-        uid,
-        gid,
-        size,
-        generation,
-        change,
-        atime,
-        mtime,
-        ctime,
-    } = file;
-    let (content, is_written) = written(alloc, content, offset, bytes);
-    let after = File {
-        content,
-        mode,
-        links,
-        uid,
-        gid,
-        size,
-        generation,
-        change,
-        atime,
-        mtime,
-        ctime,
-    };
+    let (content, is_written) = written(alloc, file.content, offset, bytes);
     if !is_written {
-        return Err(after);
+        return Err(File { content, ..file });
     }
     Ok(File {
-        size: size.max(offset + bytes.len() as u32),
+        content,
+        size: file.size.max(offset + bytes.len() as u32),
         mtime: now,
-        ..after
+        ..file
     })
 }
 

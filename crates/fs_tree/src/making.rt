@@ -103,8 +103,8 @@ pub(crate) fn make(
     Ok(())
 }
 
-// Puts a name into a directory, which then has so many links.
-fn put_entry(
+/// Puts a name into a directory, which then has so many links. On [`NoMemory`] the tree is as before.
+pub(crate) fn put_entry(
     alloc: Global,
     tree: &mut PlainTree,
     parent: u32,
@@ -156,9 +156,9 @@ fn with_entry(alloc: Global, dir: File, entry: Entry, links: u32, now: Stamp) ->
     })
 }
 
-// The content of a directory after a name was put, and whether it was: not where memory ran out, and then it
-// is as it was.
-fn content_with(alloc: Global, content: Content, entry: Entry) -> (Content, bool)
+/// The content of a directory after a name was put, and whether it was: not where memory ran out, and then
+/// it is as it was.
+pub(crate) fn content_with(alloc: Global, content: Content, entry: Entry) -> (Content, bool)
     ensures done { result.1 ≡ true → is_directory content ≡ true → result.0 ≡ with_slots (slot.put_name (slots_of content) entry) content }
     ensures kept { result.1 ≡ false → result.0 ≡ content }
 {

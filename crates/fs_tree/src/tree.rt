@@ -1,11 +1,10 @@
-ghost use Rattle.std.specs.Prelude.{◌≡◌, ℕ, ◌<◌, true, IfOk, OnOk, OnErr};
+ghost use Rattle.std.specs.Prelude.{◌≡◌, ℕ, ◌<◌, IfOk, OnOk, OnErr};
 ghost use Rattle.nfs_proto.specs.Arguments.{IsFit};
 ghost use Rattle.fs_rules.specs.Geometry.{IsWithinLimits};
 ghost use Rattle.fs_rules.specs.Fresh.{fresh, fresh_root};
 ghost use Rattle.fs_rules.specs.Good.{IsGood};
 ghost use Rattle.fs_rules.specs.Numbers.{first_free};
 ghost use Rattle.fs_rules.specs.Respond.{respond, IsPick, IsTold};
-ghost use Rattle.fs_tree.specs.Calls.{is_built};
 ghost use Rattle.fs_tree.specs.Meets.{Meets};
 
 use crate::call_bytes::call_bytes;
@@ -87,7 +86,6 @@ impl Tree {
         now: Stamp,
         pick: Option<u32>,
     ) -> Result<Answer, NoMemory>
-        requires built { is_built call.now ≡ true }
         requires fits { IsFit call.now }
         requires pick { (start : ℕ) × IsPick self.old call.now cred.now now start pick }
         ensures answer { (start : ℕ) → IsPick self.old call.now cred.now now start pick
@@ -110,7 +108,6 @@ impl Tree {
         now: Stamp,
         pick: Option<u32>,
     ) -> Result<Response, NoMemory>
-        requires built { is_built call.now ≡ true }
         requires fits { IsFit call.now }
         requires pick { (start : ℕ) × IsPick self.old call.now cred.now now start pick }
         ensures meets { (start : ℕ) → IsPick self.old call.now cred.now now start pick
