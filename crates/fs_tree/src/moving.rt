@@ -12,10 +12,10 @@ ghost use Rattle.fs_tree.specs.Makes.{CanTake};
 ghost use Rattle.fs_tree.specs.declared.plan.Replaced.TheVariants.{IsFreed};
 ghost use Rattle.fs_tree.specs.Moving.{moved_edits, exchanged, CanMove, CanReplace};
 
-use crate::change::placeholder;
+use crate::change::{placeholder, put};
 use crate::making::{content_with, put_entry};
 use crate::plan::{Plan, Replaced};
-use crate::taking::{emptied, keep, put, take_from, take_link};
+use crate::taking::{emptied, keep, take_from, take_link};
 use fs_rules::{Bytes, Content, Entry, File, NoMemory, PlainTree, Stamp};
 use std::alloc::Global;
 

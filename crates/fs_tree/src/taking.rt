@@ -9,7 +9,7 @@ ghost use Rattle.fs_rules.specs.Names.{without_name, unlinked};
 ghost use Rattle.fs_rules.specs.Edits.{Changed, Freed, changed_at, edited};
 ghost use Rattle.fs_tree.specs.Taking.{HasRoom, CanLose, CanTake};
 
-use crate::change::placeholder;
+use crate::change::{placeholder, put};
 use fs_content::take_name;
 use fs_rules::{BLOCK_BYTES, Content, File, Kept, NoMemory, PlainTree, SLOTS_PER_BLOCK, Stamp};
 use std::alloc::Global;
@@ -132,19 +132,4 @@ pub(crate) fn emptied(content: Content, name: &[u8]) -> (Content, u32)
         }
         other => (other, 0),
     }
-}
-
-/// Puts a changed file in the place of what stands at its number, with its change number raised
-/// and `now` as the moment of its change. It takes no memory.
-pub(crate) fn put(tree: &mut PlainTree, number: u32, file: File, now: Stamp)
-    requires change { file.change < 2 ^ 64 - 1 }
-    requires there { IsSome (map.get tree.old.files number) }
-    ensures { tree.new ≡ record tree.old { files = map.insert tree.old.files number (changed_at now file) } }
-{
-    let file = File {
-        change: file.change + 1,
-        ctime: now,
-        ..file
-    };
-    tree.files.replace(number, file);
 }
