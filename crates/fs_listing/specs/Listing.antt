@@ -27,9 +27,11 @@ mode_word mode = map (λ place. 48 + mode / place % 8) (0o1000 ∷ 0o100 ∷ 0o1
 unfoldable pub file_line : ℕ → File → List ℕ
 file_line number f =
     spaced
-    (codes "file" ∷ decimal number ∷ decimal f.generation ∷ kind_word f.content ∷ mode_word f.mode ∷ decimal f.links ∷ decimal f.uid ∷ decimal f.gid
-    ∷ decimal f.size ∷ decimal f.change ∷ decimal f.atime.sec ∷ decimal f.atime.usec ∷ decimal f.mtime.sec ∷ decimal f.mtime.usec ∷ decimal f.ctime.sec
-    ∷ decimal f.ctime.usec ∷ [])
+    (codes "file" ∷ decimal number ∷ decimal f.generation ∷ kind_word f.content ∷ mode_word f.mode
+    ∷ decimal f.links ∷ decimal f.uid ∷ decimal f.gid ∷ decimal f.size ∷ decimal f.change
+    ∷ decimal f.atime.sec ∷ decimal f.atime.usec
+    ∷ decimal f.mtime.sec ∷ decimal f.mtime.usec
+    ∷ decimal f.ctime.sec ∷ decimal f.ctime.usec ∷ [])
 
 -- the line of a slot in use of a directory
 unfoldable pub name_line : ℕ → ℕ → Entry → List ℕ
