@@ -58,6 +58,7 @@ fn append_blocks(
     Ok(())
 }
 
+// The line of a file.
 #[tactic(auto, unfolding(crate::specs::Listing::file_line))]
 fn file_line(alloc: Global, number: u32, file: &File) -> Result<Bytes, NoMemory>
     ensures { IfOk result (λ line. line ≡ file_line number file.now) }
@@ -86,6 +87,7 @@ fn file_line(alloc: Global, number: u32, file: &File) -> Result<Bytes, NoMemory>
     )
 }
 
+// The line of a slot in use.
 #[tactic(auto, unfolding(crate::specs::Listing::name_line))]
 fn name_line(alloc: Global, directory: u32, slot: u64, entry: &Entry) -> Result<Bytes, NoMemory>
     ensures { IfOk result (λ line. line ≡ name_line directory slot entry.now) }
@@ -102,6 +104,7 @@ fn name_line(alloc: Global, directory: u32, slot: u64, entry: &Entry) -> Result<
     )
 }
 
+// The line of a stored block.
 #[tactic(auto, unfolding(crate::specs::Listing::data_line))]
 fn data_line(alloc: Global, number: u32, index: u32, block: &[u8]) -> Result<Bytes, NoMemory>
     ensures { IfOk result (λ line. line ≡ data_line number index block.now) }

@@ -6,12 +6,12 @@ use crate::word::Word;
 use sfs_base::{Bytes, NoMemory};
 use std::alloc::Global;
 
-/// A line: the word that tells what it is of, and the others, each behind a space.
-pub fn line_of(alloc: Global, kind: &[u8], words: &[Word<'_>]) -> Result<Bytes, NoMemory>
-    ensures { IfOk result (λ line. line ≡ spaced (kind.now ∷ map text_of words.now)) }
+/// The line of these words, with a space between two. [`NoMemory`]: there is no memory for it.
+pub fn line_of(alloc: Global, first: &[u8], others: &[Word<'_>]) -> Result<Bytes, NoMemory>
+    ensures { IfOk result (λ line. line ≡ spaced (first.now ∷ map text_of others.now)) }
 {
-    let mut text = Vec::from_slice(alloc, kind)?;
-    for word in words {
+    let mut text = Vec::from_slice(alloc, first)?;
+    for word in others {
         text.push(b' ')?;
         word.append(&mut text)?;
     }

@@ -21,7 +21,7 @@ pub enum Word<'a> {
 impl Word<'_> {
     ghost use Rattle.fs_listing.specs.Words.{text_of};
 
-    /// Writes the word at the end of `out`.
+    /// Writes the word at the end of `out`. [`NoMemory`]: there is no memory for it.
     pub fn append(&self, out: &mut Vec<u8>) -> Result<(), NoMemory>
         ensures { OnOk result (out.new.items ≡ out.old.items ++ text_of self.now) }
     {
@@ -34,6 +34,7 @@ impl Word<'_> {
     }
 }
 
+// The decimal digits of a number.
 fn append_number(out: &mut Vec<u8>, n: u64) -> Result<(), NoMemory>
     ensures { OnOk result (out.new.items ≡ out.old.items ++ decimal n) }
 {
@@ -49,7 +50,7 @@ fn mode_word(mode: u32) -> [u8; 4]
     [digit(0o1000), digit(0o100), digit(0o10), digit(1)]
 }
 
-// More digits than a list may have find no memory.
+// The two digits of each byte. More digits than a number counts find no memory.
 fn append_hex(out: &mut Vec<u8>, bytes: &[u8]) -> Result<(), NoMemory>
     ensures { OnOk result (out.new.items ≡ out.old.items ++ encode_lower bytes.now) }
 {

@@ -7,9 +7,9 @@ use Rattle.fs_listing.proofs.line.line_of.Goals as goal
 
 pub returns : goal.returns
 returns c =
-    let kind = c.args.kind.now in
-    let words = c.args.words.now in
+    let first = c.args.first.now in
+    let others = c.args.others.now in
     c.from.ensures
     ∙ c.loop-word.invariant
-    ∙ ap (λ (written : List Word). kind ++ flat_map (λ word. 32 ∷ text_of word) written) (take_all c.loop-word.word-index words c.loop-word-test.false)
-    ∙ sym (spaced-cons kind words)
+    ∙ ap (λ (written : List Word). first ++ flat_map (λ word. 32 ∷ text_of word) written) (take_all c.loop-word.word-index others c.loop-word-test.false)
+    ∙ sym (spaced-cons first others)
