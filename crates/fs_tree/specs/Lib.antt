@@ -3,6 +3,7 @@ pub use Rattle.fs_rules.specs.Geometry
 pub use Rattle.fs_rules.specs.Good
 pub use Rattle.fs_rules.specs.Fresh
 pub use Rattle.fs_rules.specs.Respond
+pub use Rattle.fs_listing.specs.Listing
 pub mod Steps
 pub mod Taking
 pub mod Removing

@@ -37,6 +37,7 @@ mod taking;
 mod tree;
 
 pub use attributes::MAX_FILE_BYTES;
+pub use fs_listing::Listing;
 pub use fs_rules::{
     Answer, Attrs, BLOCK_BYTES, Blocks, Bytes, Call, Content, Cred, Entry, Fattr, File, Geometry,
     Handle, Kept, MAX_BLOCKS, MAX_INODES, MAX_MEMORIES, MAX_NODES, NoMemory, PlainTree,

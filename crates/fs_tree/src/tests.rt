@@ -154,6 +154,18 @@ fn a_fresh_tree_has_the_root_alone(rt: HostRuntime) -> Result<(), Fail> {
 }
 
 #[test]
+fn a_fresh_tree_is_listed_in_one_line(rt: HostRuntime) -> Result<(), Fail> {
+    let tree = fresh_tree(rt.alloc())?;
+    let lines = tree.listing()?;
+    assert_eq!(rt; lines.len(), 1);
+    for line in lines.as_slice() {
+        let wanted = b"file 1 1 dir 0777 2 0 0 0 1 0 0 0 0 0 0";
+        assert_eq!(rt; line.as_slice(), wanted.as_slice());
+    }
+    Ok(())
+}
+
+#[test]
 fn only_the_handle_of_a_file_gets_its_attributes(rt: HostRuntime) -> Result<(), Fail> {
     let mut tree = fresh_tree(rt.alloc())?;
     let cred = Cred::nobody(rt.alloc());

@@ -5,12 +5,14 @@ ghost use Rattle.fs_rules.specs.Fresh.{fresh, fresh_root};
 ghost use Rattle.fs_rules.specs.Good.{IsGood};
 ghost use Rattle.fs_rules.specs.Numbers.{first_free};
 ghost use Rattle.fs_rules.specs.Respond.{respond, IsPick, IsTold};
+ghost use Rattle.fs_listing.specs.Listing.{listing};
 ghost use Rattle.fs_tree.specs.Meets.{Meets};
 
 use crate::call_bytes::call_bytes;
 use crate::numbers::first_free;
 use crate::procedures::carry_out;
 use crate::response::Response;
+use fs_listing::{Listing, listing};
 use fs_rules::{
     Answer, Call, Content, Cred, File, Geometry, NoMemory, PlainTree, ROOT, Slots, Stamp,
 };
@@ -73,6 +75,13 @@ impl Tree {
         ensures { result ≡ first_free self.now start }
     {
         first_free(&self.plain, start)
+    }
+
+    /// The lines that tell all files, their names and their data (`docs/FORMATS.md`, "Listings").
+    pub fn listing(&self) -> Result<Listing, NoMemory>
+        ensures { IfOk result (λ lines. lines ≡ listing self.now) }
+    {
+        listing(self.alloc, &self.plain)
     }
 
     /// Carries out a call for the caller `cred` at the moment `now`, and answers it as the rules of the
