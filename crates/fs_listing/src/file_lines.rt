@@ -10,7 +10,7 @@ use sfs_base::{Bytes, NoMemory};
 use std::alloc::Global;
 
 /// Adds the lines of a file: its own, and those of its names or its stored blocks.
-pub fn append_file(
+pub(crate) fn append_file(
     alloc: Global,
     lines: &mut Listing,
     number: u32,

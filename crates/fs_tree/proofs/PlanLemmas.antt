@@ -37,8 +37,8 @@ use Rattle.fs_laws.proofs.ReplaceLemmas.{IsSource, turned_content, source_kind, 
 use Rattle.fs_laws.proofs.RenameLemmas.{moving, named_by, one_dir, way_around}
 use Rattle.fs_tree.specs.declared.plan.Replaced.TheVariants.{Nothing, LosesLink, IsFreed}
 use Rattle.fs_tree.specs.Steps.{refused}
-use Rattle.fs_tree.specs.Makes.{used_by}
-use Rattle.fs_tree.specs.Moving.{pair_row, source_row, is_same_number, is_dir_at, replaced_is, over_row, kind_check, chain_row, move_check, grown_limits, is_spent_at, spent_by, CanRise, fate_of, replaced_at, links_after, plan_of, CanReplace, MayMove}
+use Rattle.fs_tree.specs.Makes.{used_by, grown_limits}
+use Rattle.fs_tree.specs.Moving.{pair_row, source_row, is_same_number, is_dir_at, replaced_is, over_row, kind_check, chain_row, move_check, is_spent_at, spent_by, CanRise, fate_of, replaced_at, links_after, plan_of, CanReplace, MayMove}
 use Rattle.fs_tree.proofs.RespondLemmas.{behind_none, no_limits, named_there}
 use Rattle.fs_tree.proofs.ChangeLemmas.{arguments_fail, check_fails, limit_fails, all_pass}
 use Rattle.fs_tree.proofs.TakeLemmas.{IsLight, light_freed, light_changed, light_dir, length_taken}
@@ -368,6 +368,15 @@ module _ (t : PlainTree) (from : Handle) (from_name : List ℕ) (to : Handle) (t
           unfolding move_edits
           edits_by now = ap (λ (b : Bool). cond b [] (directory_edits now m ++ (Changed s turned ∷ replaced_edits m))) apart_same
 
+          -- the limits where light edits stand before it
+          limits_with : (start : ℕ) (pre : List Edit) (g : File) (slots : List (Option Entry)) → AreLight t pre → g.content ≡ Directory slots parent → length slots ≡ length (received m)
+              → list_any is_spent (pre ++ Changed b g ∷ Changed s turned ∷ replaced_edits m) ≡ spent_by t c d s replaced
+              → first_failure (limits t start (pre ++ Changed b g ∷ Changed s turned ∷ replaced_edits m)) ≡ grown_limits t (spent_by t c d s replaced) g.links d (length (received m))
+          limits_with start pre g slots light content size spent =
+              limits_grown t start pre (Changed s turned ∷ replaced_edits m) b g light (turned_light, tail_light)
+              ∙ grown (list_any is_spent (pre ++ Changed b g ∷ Changed s turned ∷ replaced_edits m)) g slots content size
+              ∙ ap (λ (k : Bool). grown_limits t k g.links d (length (received m))) spent
+
           limits_by : (now : Stamp) (start : ℕ) (same : Bool) → (a == b) ≡ same
               → first_failure (limits t start ((cond same
               (Changed b (unlinked lost (renamed now (take_name (received m) from_name) d)) ∷ [])
@@ -384,18 +393,15 @@ module _ (t : PlainTree) (from : Handle) (from_name : List ℕ) (to : Handle) (t
               ap (λ (k : Bool). (d.change == 2 ^ 64 - 1) || k) rest_is
               ∙ sym (or_twice (d.change == 2 ^ 64 - 1) (is_spent_at t s || replaced_is t replaced (λ r. r.change == 2 ^ 64 - 1)))
               ∙ ap (λ (k : File). (k.change == 2 ^ 64 - 1) || ((d.change == 2 ^ 64 - 1) || (is_spent_at t s || replaced_is t replaced (λ r. r.change == 2 ^ 64 - 1)))) (sym one) in
-              limits_grown t start [] (Changed s turned ∷ replaced_edits m) b g tt (turned_light, tail_light)
-              ∙ grown ((d.change == 2 ^ 64 - 1) || rest_spent) g slots (renamed_dir now slots d parent second.content).content (length_taken (received m) from_name)
-              ∙ ap (λ (k : Bool). grown_limits t k g.links d (length (received m))) spent
+              limits_with start [] g slots tt (renamed_dir now slots d parent second.content).content (length_taken (received m) from_name) spent
               ∙ ap (λ (k : ℕ). grown_limits t (spent_by t c d s replaced) (k - lost) d (length (received m))) (let same : d.links ≡ d.links + 0 = omega arith in same)
           limits_by now start false is =
               let x = Changed a (unlinked (one_where (is_directory f.content)) (without_name now from_name c)) in
               let g : File = unlinked lost (record (renamed now (received m) d) { links = d.links + one_where (is_directory f.content) }) in
               let spent : ((c.change == 2 ^ 64 - 1) || ((d.change == 2 ^ 64 - 1) || rest_spent)) ≡ spent_by t c d s replaced =
               ap (λ (k : Bool). (c.change == 2 ^ 64 - 1) || ((d.change == 2 ^ 64 - 1) || k)) rest_is in
-              limits_grown t start (x ∷ []) (Changed s turned ∷ replaced_edits m) b g (light_dir now t a c up from_name (one_where (is_directory f.content)) good first, tt) (turned_light, tail_light)
-              ∙ grown ((c.change == 2 ^ 64 - 1) || ((d.change == 2 ^ 64 - 1) || rest_spent)) g (received m) (renamed_dir now (received m) d parent second.content).content refl
-              ∙ ap (λ (k : Bool). grown_limits t k g.links d (length (received m))) spent
+              limits_with start (x ∷ []) g (received m) (light_dir now t a c up from_name (one_where (is_directory f.content)) good first, tt)
+              (renamed_dir now (received m) d parent second.content).content refl spent
 
           limits_are : (now : Stamp) (start : ℕ) → first_failure (limits t start (edits_of t call cred now start)) ≡ grown_limits t (spent_by t c d s replaced) (links_after t a b s replaced d) d (length (received m))
           limits_are now start =

@@ -13,11 +13,10 @@ use Rattle.fs_rules.specs.declared.entry.Entry.{Entry}
 use Rattle.fs_rules.specs.declared.file.File.{File}
 use Rattle.fs_rules.specs.declared.plain_tree.PlainTree.{PlainTree}
 use Rattle.fs_rules.specs.Lists.{below}
-use Rattle.fs_rules.specs.File.{used, slots_of, is_directory}
+use Rattle.fs_rules.specs.File.{slots_of, is_directory}
 use Rattle.fs_rules.specs.Access.{may}
-use Rattle.fs_rules.specs.Numbers.{free_blocks}
 use Rattle.fs_rules.specs.Slots.{is_in_use, put_name, take_name}
-use Rattle.fs_rules.specs.Statuses.{Check, first_failure, fails_where, acces, noent, isdir, notdir, notempty, nametoolong, io, fbig, nospc}
+use Rattle.fs_rules.specs.Statuses.{Check, first_failure, fails_where, acces, noent, isdir, notdir, notempty, nametoolong, io}
 use Rattle.fs_rules.specs.Arguments.{at_number, is_dots, name_check, taken, given}
 use Rattle.fs_rules.specs.Edits.{Edit, Changed, Freed}
 use Rattle.fs_rules.specs.Making.{renamed}
@@ -29,7 +28,6 @@ use Rattle.fs_tree.specs.declared.plan.Replaced.TheVariants.{Nothing, LosesLink,
 use Rattle.fs_tree.specs.declared.plan.Decision.{Decision}
 use Rattle.fs_tree.specs.declared.plan.Decision.TheVariants.{Refused, Same, Moves}
 use Rattle.fs_tree.specs.Steps.{refused}
-use Rattle.fs_tree.specs.Makes.{used_by}
 use Rattle.fs_tree.specs.Taking.{HasRoom, CanLose}
 
 -- ---- the checks
@@ -86,16 +84,7 @@ goes_across t a b s = is_dir_at t s && not (a == b)
 abbrev pub move_check : PlainTree → ℕ → ℕ → ℕ → Option ℕ → Check
 move_check t a b s replaced = option_or (kind_check t s replaced) (if goes_across t a b s then first_failure (chain_row t b s) else None)
 
--- ---- the limits
-
--- the limits where a change number that would rise is spent, or the directory d gets so many links and slots
-abbrev pub grown_limits : PlainTree → Bool → ℕ → File → ℕ → Check
-grown_limits t spent links d slots =
-    if spent
-    then Some fbig
-    else if nat_lt 32000 links || (nat_lt 7650 slots || nat_lt (free_blocks t) (used_by slots - used d.content))
-    then Some nospc
-    else None
+-- ---- the change numbers
 
 -- the change number of the file with a number is spent
 abbrev pub is_spent_at : PlainTree → ℕ → Bool

@@ -8,7 +8,8 @@ ghost use Rattle.fs_rules.specs.File.{slots_of, is_directory};
 ghost use Rattle.fs_rules.specs.Slots.{file_named, is_in_use};
 ghost use Rattle.fs_rules.specs.Statuses.{first_failure, fails_where, acces, notempty};
 ghost use Rattle.fs_rules.specs.Arguments.{file_of, argument_checks};
-ghost use Rattle.fs_tree.specs.Moving.{pair_row, source_row, replaced_is, over_row, kind_check, move_check, grown_limits, goes_across, fate_of, replaced_at, plan_of, spent_by, CanRise, Decides};
+ghost use Rattle.fs_tree.specs.Makes.{grown_limits};
+ghost use Rattle.fs_tree.specs.Moving.{pair_row, source_row, replaced_is, over_row, kind_check, move_check, goes_across, fate_of, replaced_at, plan_of, spent_by, CanRise, Decides};
 
 use crate::chain::{chain_failure, is_at};
 use crate::limits::{MAX_LINKS, MAX_SLOTS, is_last, is_spent};

@@ -3,7 +3,8 @@ use Rattle.fs_rules.specs.Handle.{number_in}
 use Rattle.fs_rules.specs.File.{slots_of}
 use Rattle.fs_rules.specs.Slots.{file_named, put_name}
 use Rattle.fs_tree.specs.declared.plan.Plan.{Plan}
-use Rattle.fs_tree.specs.Moving.{is_same_number, move_check, grown_limits, spent_by, CanRise, links_after, plan_of, MayMove}
+use Rattle.fs_tree.specs.Makes.{grown_limits}
+use Rattle.fs_tree.specs.Moving.{is_same_number, move_check, spent_by, CanRise, links_after, plan_of, MayMove}
 use Rattle.fs_tree.proofs.LinkLemmas.{if_none_is}
 use Rattle.fs_tree.proofs.PlanLemmas.{rename_argument, rename_unnamed, to_limits, rename_same, rename_refused, rename_limited, may_move}
 use Rattle.fs_tree.proofs.planning.decided.Goals as goal
