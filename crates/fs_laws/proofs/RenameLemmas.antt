@@ -59,7 +59,7 @@ same_some : (g k : File) → ◌≡◌ {A = Option File} (Some g) (Some k) → g
 same_some g k is = cc
 
 -- two directories with one number are one
-one_dir : (t : PlainTree) (a : ℕ) (c : File) (up b : ℕ) (d : File) (parent : ℕ) → IsDir t a c up → IsDir t b d parent → a ≡ b → c ≡ d
+pub one_dir : (t : PlainTree) (a : ℕ) (c : File) (up b : ℕ) (d : File) (parent : ℕ) → IsDir t a c up → IsDir t b d parent → a ≡ b → c ≡ d
 one_dir t a c up b d parent first second same = same_some c d (sym first.there ∙ ap (table.get t.files) same ∙ second.there)
 
 renaming_good : (now : Stamp) (t : PlainTree) (start a : ℕ) (c : File) (up b : ℕ) (d : File) (parent s : ℕ) (f : File) (name : List ℕ) (e : Entry) (tail : List Edit) (Replaced : ℕ → Type 0)
@@ -145,7 +145,7 @@ pub record IsFound (t : PlainTree) (a : ℕ) (c : File) (up : ℕ) (name : List 
 
 module _ (now : Stamp) (t : PlainTree) (start a : ℕ) (c : File) (up : ℕ) (name : List ℕ) (b : ℕ) (d : File) (parent : ℕ) (to_name : List ℕ) (s : ℕ) (f : File) where
   -- the way from the second directory does not pass a directory that is moved there
-  way_around : (replaced : Option (ℕ × File)) → ArePassed (move_checks t (moving a c name b d to_name s f replaced)) → table.get t.files s ≡ Some f
+  pub way_around : (replaced : Option (ℕ × File)) → ArePassed (move_checks t (moving a c name b d to_name s f replaced)) → table.get t.files s ≡ Some f
       → a ≢ b → (p : ℕ) → parent_at t s ≡ Some p → IsAround t b s
   way_around replaced checked there apart p is = elim (source_kind t s f there) [
     | inl file ↦ let e : ◌≡◌ {A = Option ℕ} None (Some p) = sym (file_parent t s f file) ∙ is in absurd cc

@@ -20,3 +20,8 @@ pub mod RemoveDirLemmas
 pub mod MakeDirLemmas
 pub mod LinkLemmas
 pub mod SymLinkLemmas
+pub mod PairLemmas
+pub mod GrowthLemmas
+pub mod PlanLemmas
+pub mod MovingLemmas
+pub mod ChainLemmas

@@ -33,7 +33,7 @@ use Rattle.fs_tree.proofs.TakeLemmas.{unlinked_none, limits_roomy, IsLight, ligh
 
 -- ---- a file that loses a name
 
-light_loses : (t : PlainTree) (m : ℕ) (f : File) → IsGood t → IsFile t m f → IsLight t (loses_link m f)
+pub light_loses : (t : PlainTree) (m : ℕ) (f : File) → IsGood t → IsFile t m f → IsLight t (loses_link m f)
 light_loses t m f good file =
     elim (nat_lt 1 f.links) as (λ b. IsLight t (cond b (Changed m (unlinked 1 f)) (Freed m f))) [
       | true ↦

@@ -3,10 +3,11 @@ pub use Rattle.fs_rules.specs.Geometry
 pub use Rattle.fs_rules.specs.Good
 pub use Rattle.fs_rules.specs.Fresh
 pub use Rattle.fs_rules.specs.Respond
+pub use Rattle.fs_listing.specs.Listing
 pub mod Steps
 pub mod Taking
 pub mod Removing
 pub mod Linking
-pub mod Calls
 pub mod Meets
 pub mod Makes
+pub mod Moving

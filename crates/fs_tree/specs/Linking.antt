@@ -1,5 +1,5 @@
 -- How LINK goes.
-use Rattle.std.specs.Prelude.{◌≡◌, ◌≢◌, ℕ, ◌+◌, ◌-◌, ◌/◌, ◌^◌, ◌<◌, ◌≤◌, ◌==◌, nat_lt, true, ◌||◌, if◌then◌else◌, List, [], ◌∷◌, length, Some, None}
+use Rattle.std.specs.Prelude.{◌≡◌, ◌≢◌, ℕ, ◌+◌, ◌-◌, ◌^◌, ◌<◌, ◌≤◌, ◌==◌, true, ◌||◌, List, [], ◌∷◌, length, Some, None}
 use Rattle.std.specs.FinMap.{get}
 use Rattle.rpc_msg.specs.declared.cred.Cred.{Cred}
 use Rattle.nfs_proto.specs.declared.call.Call.TheVariants.{Link}
@@ -8,23 +8,17 @@ use Rattle.nfs_proto.specs.declared.stamp.Stamp.{Stamp}
 use Rattle.fs_rules.specs.declared.file.File.{File}
 use Rattle.fs_rules.specs.declared.plain_tree.PlainTree.{PlainTree}
 use Rattle.fs_rules.specs.Handle.{number_in}
-use Rattle.fs_rules.specs.File.{used, slots_of, is_directory}
-use Rattle.fs_rules.specs.Numbers.{free_blocks}
+use Rattle.fs_rules.specs.File.{slots_of, is_directory}
 use Rattle.fs_rules.specs.Slots.{put_name}
-use Rattle.fs_rules.specs.Statuses.{Check, fbig, nospc}
+use Rattle.fs_rules.specs.Statuses.{Check}
 use Rattle.fs_rules.specs.Edits.{Changed}
 use Rattle.fs_rules.specs.Making.{with_name, linked}
 use Rattle.fs_rules.specs.Respond.{decided, respond}
-use Rattle.fs_tree.specs.Makes.{used_by}
+use Rattle.fs_tree.specs.Makes.{grown_limits}
 
 -- the limits of a name that is given to the file f in the directory d, which has so many slots then
 abbrev pub link_limits : PlainTree → File → File → ℕ → Check
-link_limits t f d slots =
-    if (d.change == 2 ^ 64 - 1) || (f.change == 2 ^ 64 - 1)
-    then Some fbig
-    else if nat_lt 32000 (f.links + 1) || (nat_lt 7650 slots || nat_lt (free_blocks t) (used_by slots - used d.content))
-    then Some nospc
-    else None
+link_limits t f d slots = grown_limits t ((d.change == 2 ^ 64 - 1) || (f.change == 2 ^ 64 - 1)) (f.links + 1) d slots
 
 -- a file may be changed again, and get a link more
 pub record CanGain (f : File) : Type 0 where

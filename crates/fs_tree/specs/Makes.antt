@@ -35,6 +35,15 @@ is_pick t pick = option_map_or (λ n. is_number t.geometry n && is_free t n) pic
 abbrev pub used_by : ℕ → ℕ
 used_by slots = slots / 15 + chains_up_to (last_of (slots / 15))
 
+-- the limits where a change number that would rise is spent, or the directory d gets so many links and slots
+abbrev pub grown_limits : PlainTree → Bool → ℕ → File → ℕ → Check
+grown_limits t spent links d slots =
+    if spent
+    then Some fbig
+    else if nat_lt 32000 links || (nat_lt 7650 slots || nat_lt (free_blocks t) (used_by slots - used d.content))
+    then Some nospc
+    else None
+
 -- the limits where a file that uses so many blocks is made in the directory d, which then has so many links and slots
 abbrev pub made_limits : PlainTree → File → ℕ → ℕ → ℕ → Option ℕ → Check
 made_limits t d links slots more pick =

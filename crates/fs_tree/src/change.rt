@@ -69,12 +69,29 @@ pub(crate) fn put_file(tree: &mut PlainTree, number: u32, file: File, now: Stamp
     ensures tree { tree.new ≡ record tree.old { files = map.insert tree.old.files number (changed_at now file) } }
     ensures attr { result ≡ fattr_of number (changed_at now file) }
 {
-    let file = File {
-        change: file.change + 1,
-        ctime: now,
-        ..file
-    };
+    let file = changed(file, now);
     let attr = file.fattr(number);
     tree.files.replace(number, file);
     attr
+}
+
+/// Puts a changed file in the place of what stands at its number. It takes no memory.
+pub(crate) fn put(tree: &mut PlainTree, number: u32, file: File, now: Stamp)
+    requires change { file.change < 2 ^ 64 - 1 }
+    requires there { IsSome (map.get tree.old.files number) }
+    ensures { tree.new ≡ record tree.old { files = map.insert tree.old.files number (changed_at now file) } }
+{
+    tree.files.replace(number, changed(file, now));
+}
+
+/// A file that was changed: its change number rises by one, and `now` is the moment of its change.
+pub(crate) fn changed(file: File, now: Stamp) -> File
+    requires { file.change < 2 ^ 64 - 1 }
+    ensures { result ≡ changed_at now file }
+{
+    File {
+        change: file.change + 1,
+        ctime: now,
+        ..file
+    }
 }

@@ -8,7 +8,7 @@
 
 mod attributes;
 mod call_bytes;
-mod calls;
+mod chain;
 mod change;
 mod changing;
 mod creating;
@@ -19,12 +19,16 @@ mod linking;
 mod lookup;
 mod making;
 mod making_dir;
+mod moving;
 mod naming;
 mod numbers;
+mod plan;
+mod planning;
 mod procedures;
 mod reading;
 mod removing;
 mod removing_directories;
+mod renaming;
 mod response;
 mod space;
 mod status;
@@ -33,7 +37,7 @@ mod taking;
 mod tree;
 
 pub use attributes::MAX_FILE_BYTES;
-pub use calls::is_built;
+pub use fs_listing::Listing;
 pub use fs_rules::{
     Answer, Attrs, BLOCK_BYTES, Blocks, Bytes, Call, Content, Cred, Entry, Fattr, File, Geometry,
     Handle, Kept, MAX_BLOCKS, MAX_INODES, MAX_MEMORIES, MAX_NODES, NoMemory, PlainTree,
@@ -43,5 +47,7 @@ pub use naming::MAX_NAME_BYTES;
 pub use response::{Change, Response};
 pub use tree::Tree;
 
+#[cfg(test)]
+mod names_tests;
 #[cfg(test)]
 mod tests;

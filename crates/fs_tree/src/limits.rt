@@ -2,6 +2,7 @@ ghost use Rattle.std.specs.Prelude.{◌≡◌, ◌^◌, ◌-◌, ◌<◌, ◌==�
 ghost use Rattle.std.specs.FinMap as map;
 ghost use Rattle.fs_rules.specs.declared.file.File.{File as AFile};
 ghost use Rattle.fs_rules.specs.Good.{IsGood};
+ghost use Rattle.fs_tree.specs.Moving.{is_spent_at};
 
 use crate::lookup::file_at;
 use fs_rules::PlainTree;
@@ -18,6 +19,7 @@ pub(crate) const MAX_SLOTS: usize = 7_650;
 /// Whether the file with a number may not be changed again.
 pub(crate) fn is_spent(tree: &PlainTree, number: u32) -> bool
     requires { IsGood tree.now }
+    ensures exact { result ≡ is_spent_at tree.now number }
     ensures value { (f : AFile) → map.get tree.now.files number ≡ Some f → result ≡ (f.change == 2 ^ 64 - 1) }
     ensures rises { result ≡ false → (f : AFile) → map.get tree.now.files number ≡ Some f → f.change < 2 ^ 64 - 1 }
 {

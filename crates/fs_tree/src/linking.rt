@@ -103,8 +103,8 @@ fn limit_failure(tree: &PlainTree, file: &File, dir: &File, slots: usize) -> Opt
     None
 }
 
-// Whether there are too few free blocks for a directory with so many slots.
-fn is_full(tree: &PlainTree, dir: &File, slots: usize) -> bool
+/// Whether there are too few free blocks for a directory with so many slots.
+pub(crate) fn is_full(tree: &PlainTree, dir: &File, slots: usize) -> bool
     requires good { IsGood tree.now }
     requires few { slots ≤ 7650 }
     ensures { result ≡ nat_lt (free_blocks tree.now) (used_by slots - used dir.now.content) }

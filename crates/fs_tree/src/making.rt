@@ -11,7 +11,7 @@ ghost use Rattle.fs_rules.specs.Making.{new_uid, new_gid, new_file, with_slots};
 ghost use Rattle.fs_tree.specs.Makes.{is_pick, used_by, made_limits, taking, CanTake};
 
 use crate::attributes::{MODE_VALUES, chosen_moment, is_set};
-use crate::change::placeholder;
+use crate::change::{changed, placeholder};
 use crate::limits::{MAX_LINKS, MAX_SLOTS, is_last};
 use crate::numbers::is_pick;
 use crate::space::free_blocks;
@@ -103,8 +103,8 @@ pub(crate) fn make(
     Ok(())
 }
 
-// Puts a name into a directory, which then has so many links.
-fn put_entry(
+/// Puts a name into a directory, which then has so many links. On [`NoMemory`] the tree is as before.
+pub(crate) fn put_entry(
     alloc: Global,
     tree: &mut PlainTree,
     parent: u32,
@@ -145,20 +145,19 @@ fn with_entry(alloc: Global, dir: File, entry: Entry, links: u32, now: Stamp) ->
         return Err(File { content, ..dir });
     }
     let size = directory_size(&content);
-    Ok(File {
+    let dir = File {
         content,
         links,
         size,
-        change: dir.change + 1,
         mtime: now,
-        ctime: now,
         ..dir
-    })
+    };
+    Ok(changed(dir, now))
 }
 
-// The content of a directory after a name was put, and whether it was: not where memory ran out, and then it
-// is as it was.
-fn content_with(alloc: Global, content: Content, entry: Entry) -> (Content, bool)
+/// The content of a directory after a name was put, and whether it was: not where memory ran out, and then
+/// it is as it was.
+pub(crate) fn content_with(alloc: Global, content: Content, entry: Entry) -> (Content, bool)
     ensures done { result.1 ≡ true → is_directory content ≡ true → result.0 ≡ with_slots (slot.put_name (slots_of content) entry) content }
     ensures kept { result.1 ≡ false → result.0 ≡ content }
 {

@@ -189,8 +189,8 @@ fn target(number: u32, dir: &File, name: &[u8]) -> Option<u32>
     number_named(&dir.content, name)
 }
 
-// The directory in which the name of a directory lies; another file has none.
-fn parent_of(content: &Content) -> Option<u32>
+/// The directory in which the name of a directory lies; another file has none.
+pub(crate) fn parent_of(content: &Content) -> Option<u32>
     ensures { result ≡ parent_of content.now }
 {
     match content {

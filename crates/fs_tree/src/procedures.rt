@@ -1,8 +1,7 @@
-ghost use Rattle.std.specs.Prelude.{◌≡◌, ℕ, true, IfOk, OnErr};
+ghost use Rattle.std.specs.Prelude.{◌≡◌, ℕ, IfOk, OnErr};
 ghost use Rattle.nfs_proto.specs.Arguments.{IsFit};
 ghost use Rattle.fs_rules.specs.Good.{IsGood};
 ghost use Rattle.fs_rules.specs.Respond.{respond, IsPick};
-ghost use Rattle.fs_tree.specs.Calls.{is_built};
 ghost use Rattle.fs_tree.specs.Meets.{Meets};
 
 use crate::changing::{set_attr, write};
@@ -13,6 +12,7 @@ use crate::naming::{lookup, read_dir};
 use crate::reading::{get_attr, read, read_link, stat_fs};
 use crate::removing::remove;
 use crate::removing_directories::remove_dir;
+use crate::renaming::rename;
 use crate::response::Response;
 use crate::sym_linking::sym_link;
 use fs_rules::{Answer, Call, Cred, NoMemory, PlainTree, Stamp};
@@ -27,7 +27,6 @@ pub(crate) fn carry_out(
     now: Stamp,
     pick: Option<u32>,
 ) -> Result<Response, NoMemory>
-    requires built { is_built call.now ≡ true }
     requires fits { IsFit call.now }
     requires good { IsGood tree.old }
     ensures meets { (start : ℕ) → IsPick tree.old call.now cred.now now start pick
@@ -82,7 +81,20 @@ pub(crate) fn carry_out(
         }
         Call::Remove { dir, name } => remove(alloc, tree, dir, name.as_slice(), cred, now),
         Call::RemoveDir { dir, name } => remove_dir(alloc, tree, dir, name.as_slice(), cred, now),
-        // A RENAME is not built.
-        Call::Rename { .. } => Ok(Response::told(Answer::Empty)),
+        Call::Rename {
+            from,
+            from_name,
+            to,
+            to_name,
+        } => rename(
+            alloc,
+            tree,
+            from,
+            from_name.as_slice(),
+            to,
+            to_name.as_slice(),
+            cred,
+            now,
+        ),
     }
 }

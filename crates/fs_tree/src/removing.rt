@@ -96,9 +96,16 @@ pub(crate) fn is_directory_at(tree: &PlainTree, number: u32) -> bool
     ensures { result ≡ at_number tree.now number false (λ f. is_directory f.content) }
 {
     match file_at(tree, number) {
-        Some(file) => matches!(&file.content, Content::Directory { .. }),
+        Some(file) => is_directory(&file.content),
         None => false,
     }
+}
+
+/// Whether a file is a directory.
+pub(crate) fn is_directory(content: &Content) -> bool
+    ensures { result ≡ is_directory content.now }
+{
+    matches!(content, Content::Directory { .. })
 }
 
 // Takes a name of a file from a directory; where it was the last, the file is freed. On [`NoMemory`] the

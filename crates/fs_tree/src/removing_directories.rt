@@ -102,8 +102,8 @@ fn is_in_use_at(tree: &PlainTree, number: u32) -> bool
     }
 }
 
-// Whether a name is in use in a directory; another file has none.
-fn has_names(content: &Content) -> bool
+/// Whether a name is in use in a directory; another file has none.
+pub(crate) fn has_names(content: &Content) -> bool
     ensures { result ≡ is_in_use (slots_of content.now) }
 {
     match content {

@@ -6,6 +6,9 @@ pub(crate) const PERM: u32 = 1;
 /// No file has this name.
 pub(crate) const NOENT: u32 = 2;
 
+/// A directory would be moved below itself.
+pub(crate) const IO: u32 = 5;
+
 /// The file is no link, or its size cannot be set.
 pub(crate) const NXIO: u32 = 6;
 

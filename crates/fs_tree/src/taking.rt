@@ -9,7 +9,7 @@ ghost use Rattle.fs_rules.specs.Names.{without_name, unlinked};
 ghost use Rattle.fs_rules.specs.Edits.{Changed, Freed, changed_at, edited};
 ghost use Rattle.fs_tree.specs.Taking.{HasRoom, CanLose, CanTake};
 
-use crate::change::placeholder;
+use crate::change::{placeholder, put};
 use fs_content::take_name;
 use fs_rules::{BLOCK_BYTES, Content, File, Kept, NoMemory, PlainTree, SLOTS_PER_BLOCK, Stamp};
 use std::alloc::Global;
@@ -55,8 +55,8 @@ pub(crate) fn take_last(
     Ok(())
 }
 
-// Takes a name, and so many links, from the directory with a number. It takes no memory.
-fn take_from(alloc: Global, tree: &mut PlainTree, number: u32, name: &[u8], links: u32, now: Stamp)
+/// Takes a name, and so many links, from the directory with a number. It takes no memory.
+pub(crate) fn take_from(alloc: Global, tree: &mut PlainTree, number: u32, name: &[u8], links: u32, now: Stamp)
     requires { (d : AFile) × (map.get tree.old.files number ≡ Some d) × HasRoom d × CanLose links d }
     ensures { (d : AFile) → map.get tree.old.files number ≡ Some d → tree.new ≡ record tree.old { files = map.insert tree.old.files number (changed_at now (unlinked links (without_name now name.now d))) } }
 {
@@ -67,8 +67,8 @@ fn take_from(alloc: Global, tree: &mut PlainTree, number: u32, name: &[u8], link
     put(tree, number, dir, now);
 }
 
-// Takes a link from the file with a number. It takes no memory.
-fn take_link(alloc: Global, tree: &mut PlainTree, number: u32, now: Stamp)
+/// Takes a link from the file with a number. It takes no memory.
+pub(crate) fn take_link(alloc: Global, tree: &mut PlainTree, number: u32, now: Stamp)
     requires { (f : AFile) × (map.get tree.old.files number ≡ Some f) × CanLose 1 f }
     ensures { (f : AFile) → map.get tree.old.files number ≡ Some f → tree.new ≡ record tree.old { files = map.insert tree.old.files number (changed_at now (unlinked 1 f)) } }
 {
@@ -82,9 +82,9 @@ fn take_link(alloc: Global, tree: &mut PlainTree, number: u32, now: Stamp)
     put(tree, number, file, now);
 }
 
-// Keeps the generation and the raised change number of the file with a number, which is to be freed. On
-// [`NoMemory`] the tree is as before.
-fn keep(tree: &mut PlainTree, number: u32) -> Result<(), NoMemory>
+/// Keeps the generation and the raised change number of the file with a number, which is to be freed. On
+/// [`NoMemory`] the tree is as before.
+pub(crate) fn keep(tree: &mut PlainTree, number: u32) -> Result<(), NoMemory>
     requires { (f : AFile) × (map.get tree.old.files number ≡ Some f) × (f.change < 2 ^ 64 - 1) }
     ensures ok { (f : AFile) → map.get tree.old.files number ≡ Some f
         → OnOk result (tree.new ≡ record tree.old { freed = map.insert tree.old.freed number (record { generation = f.generation; change = f.change + 1 }) }) }
@@ -117,9 +117,9 @@ fn without_name(dir: File, name: &[u8], links: u32, now: Stamp) -> File
     }
 }
 
-// The content of a directory without a name, and its size; another file has no names, and no size of them.
+/// The content of a directory without a name, and its size; another file has no names, and no size of them.
 #[tactic(auto, unfolding(fs_rules::specs::Slots::take_name))]
-fn emptied(content: Content, name: &[u8]) -> (Content, u32)
+pub(crate) fn emptied(content: Content, name: &[u8]) -> (Content, u32)
     requires { length (slots_of content) ≤ 7650 }
     ensures content { result.0 ≡ with_slots (take_name (slots_of content) name.now) content }
     ensures size { result.1 ≡ 4096 * (length (take_name (slots_of content) name.now) / 15) }
@@ -132,19 +132,4 @@ fn emptied(content: Content, name: &[u8]) -> (Content, u32)
         }
         other => (other, 0),
     }
-}
-
-/// Puts a changed file in the place of what stands at its number, with its change number raised
-/// and `now` as the moment of its change. It takes no memory.
-pub(crate) fn put(tree: &mut PlainTree, number: u32, file: File, now: Stamp)
-    requires change { file.change < 2 ^ 64 - 1 }
-    requires there { IsSome (map.get tree.old.files number) }
-    ensures { tree.new ≡ record tree.old { files = map.insert tree.old.files number (changed_at now file) } }
-{
-    let file = File {
-        change: file.change + 1,
-        ctime: now,
-        ..file
-    };
-    tree.files.replace(number, file);
 }

@@ -10,7 +10,7 @@ use crate::reading::read_failure;
 use std::alloc::Global;
 use std::test::*;
 
-const MOMENT: Stamp = Stamp { sec: 7, usec: 8 };
+pub(crate) const MOMENT: Stamp = Stamp { sec: 7, usec: 8 };
 
 const UNSET: Stamp = Stamp {
     sec: u32::MAX,
@@ -18,7 +18,7 @@ const UNSET: Stamp = Stamp {
 };
 
 // A client sets nothing.
-const NOTHING: Sattr = Sattr {
+pub(crate) const NOTHING: Sattr = Sattr {
     mode: u32::MAX,
     uid: u32::MAX,
     gid: u32::MAX,
@@ -46,7 +46,7 @@ const FRESH_ROOT: Fattr = Fattr {
 };
 
 // The tree with which a cluster of two memory nodes begins.
-fn fresh_tree(alloc: Global) -> Result<Tree, NoMemory> {
+pub(crate) fn fresh_tree(alloc: Global) -> Result<Tree, NoMemory> {
     let geometry = Geometry {
         nodes: 1,
         memories: 2,
@@ -57,7 +57,7 @@ fn fresh_tree(alloc: Global) -> Result<Tree, NoMemory> {
 }
 
 // A caller of this user and group, and of group 8.
-fn caller(alloc: Global, uid: u32, gid: u32) -> Result<Cred, NoMemory> {
+pub(crate) fn caller(alloc: Global, uid: u32, gid: u32) -> Result<Cred, NoMemory> {
     Ok(Cred {
         uid,
         gid,
@@ -91,7 +91,7 @@ fn link(alloc: Global) -> Content {
 }
 
 // The number that a new file gets. That the cluster has a memory node is known of each tree.
-fn pick_for(tree: &Tree) -> Option<u32>
+pub(crate) fn pick_for(tree: &Tree) -> Option<u32>
     ensures { result ≡ first_free tree.now 0 }
 {
     let _geometry = tree.geometry();
@@ -150,6 +150,18 @@ fn a_fresh_tree_has_the_root_alone(rt: HostRuntime) -> Result<(), Fail> {
     let root = tree.plain.files.get(ROOT);
     assert_eq!(rt; root.map(|f| (f.generation, f.change)), Some((1, 1)));
     assert_eq!(rt; root.map(|f| f.fattr(ROOT)), Some(FRESH_ROOT));
+    Ok(())
+}
+
+#[test]
+fn a_fresh_tree_is_listed_in_one_line(rt: HostRuntime) -> Result<(), Fail> {
+    let tree = fresh_tree(rt.alloc())?;
+    let lines = tree.listing()?;
+    assert_eq!(rt; lines.len(), 1);
+    for line in lines.as_slice() {
+        let wanted = b"file 1 1 dir 0777 2 0 0 0 1 0 0 0 0 0 0";
+        assert_eq!(rt; line.as_slice(), wanted.as_slice());
+    }
     Ok(())
 }
 
@@ -246,7 +258,7 @@ const READ_BEFORE: Stamp = Stamp { sec: 1, usec: 2 };
 const WRITTEN_BEFORE: Stamp = Stamp { sec: 3, usec: 4 };
 
 // The moments of reading and writing that are set, and how they stand then.
-const MOMENTS: [(Stamp, Stamp, Stamp, Stamp); 6] = [
+pub(crate) const MOMENTS: [(Stamp, Stamp, Stamp, Stamp); 6] = [
     (UNSET, SERVER_TIME, MOMENT, MOMENT),
     (GIVEN, SERVER_TIME, MOMENT, MOMENT),
     (SERVER_TIME, GIVEN, MOMENT, GIVEN),
@@ -572,125 +584,6 @@ fn create(alloc: Global, tree: &mut Tree, name: &[u8], cred: &Cred) -> Result<An
     };
     let pick = pick_for(tree);
     tree.apply(&call, cred, MOMENT, pick)
-}
-
-// REMOVE of a name of the root.
-fn remove(alloc: Global, tree: &mut Tree, name: &[u8], cred: &Cred) -> Result<Answer, NoMemory> {
-    let name = Bytes::from_slice(alloc, name)?;
-    if name.len() > 1_024 {
-        return Ok(Answer::Empty);
-    }
-    let call = Call::Remove {
-        dir: handle_of(ROOT, 1),
-        name,
-    };
-    let pick = pick_for(tree);
-    tree.apply(&call, cred, MOMENT, pick)
-}
-
-// RMDIR of a name of the root.
-fn remove_dir(
-    alloc: Global,
-    tree: &mut Tree,
-    name: &[u8],
-    cred: &Cred,
-) -> Result<Answer, NoMemory> {
-    let name = Bytes::from_slice(alloc, name)?;
-    if name.len() > 1_024 {
-        return Ok(Answer::Empty);
-    }
-    let call = Call::RemoveDir {
-        dir: handle_of(ROOT, 1),
-        name,
-    };
-    let pick = pick_for(tree);
-    tree.apply(&call, cred, MOMENT, pick)
-}
-
-// LINK of a file at a name of the root.
-fn link_to(
-    alloc: Global,
-    tree: &mut Tree,
-    file: Handle,
-    name: &[u8],
-    cred: &Cred,
-) -> Result<Answer, NoMemory> {
-    let name = Bytes::from_slice(alloc, name)?;
-    if name.len() > 1_024 {
-        return Ok(Answer::Empty);
-    }
-    let call = Call::Link {
-        file,
-        dir: handle_of(ROOT, 1),
-        name,
-    };
-    let pick = pick_for(tree);
-    tree.apply(&call, cred, MOMENT, pick)
-}
-
-#[test]
-fn a_file_stays_until_its_last_name_is_taken(rt: HostRuntime) -> Result<(), Fail> {
-    let alloc = rt.alloc();
-    let mut tree = fresh_tree(alloc)?;
-    let cred = caller(alloc, 7, 9)?;
-    create(alloc, &mut tree, b"a", &cred)?;
-    let file = handle_of(2, 1);
-    assert_eq!(rt;
-        link_to(alloc, &mut tree, file, b"b", &cred)?,
-        Answer::Plain
-    );
-    let linked = tree.plain.files.get(2);
-    assert_eq!(rt; linked.map(|f| (f.links, f.change)), Some((2, 2)));
-    assert_eq!(rt; remove(alloc, &mut tree, b"a", &cred)?, Answer::Plain);
-    let left = tree.plain.files.get(2);
-    assert_eq!(rt; left.map(|f| (f.links, f.change)), Some((1, 3)));
-    assert_eq!(rt; remove(alloc, &mut tree, b"b", &cred)?, Answer::Plain);
-    assert_eq!(rt; tree.plain.files.get(2).is_none(), true);
-    let kept = tree.plain.freed.get(2);
-    assert_eq!(rt; kept.map(|k| (k.generation, k.change)), Some((1, 4)));
-    let root = tree.plain.files.get(ROOT);
-    assert_eq!(rt;
-        root.map(|f| (f.links, f.change, f.size)),
-        Some((2, 5, 4_096))
-    );
-    Ok(())
-}
-
-#[test]
-fn remove_and_rmdir_and_link_have_their_statuses(rt: HostRuntime) -> Result<(), Fail> {
-    let alloc = rt.alloc();
-    let mut tree = fresh_tree(alloc)?;
-    let cred = caller(alloc, 7, 9)?;
-    create(alloc, &mut tree, b"a", &cred)?;
-    let file = handle_of(2, 1);
-    assert_eq!(rt; remove(alloc, &mut tree, b"x", &cred)?, Answer::Fault(2));
-    assert_eq!(rt; remove(alloc, &mut tree, b"..", &cred)?, Answer::Fault(21));
-    assert_eq!(rt;
-        remove_dir(alloc, &mut tree, b"x", &cred)?,
-        Answer::Fault(2)
-    );
-    assert_eq!(rt;
-        remove_dir(alloc, &mut tree, b".", &cred)?,
-        Answer::Fault(13)
-    );
-    assert_eq!(rt;
-        remove_dir(alloc, &mut tree, b"a", &cred)?,
-        Answer::Fault(20)
-    );
-    let root = handle_of(ROOT, 1);
-    assert_eq!(rt;
-        link_to(alloc, &mut tree, root, b"b", &cred)?,
-        Answer::Fault(1)
-    );
-    assert_eq!(rt;
-        link_to(alloc, &mut tree, file, b"a", &cred)?,
-        Answer::Fault(17)
-    );
-    assert_eq!(rt;
-        link_to(alloc, &mut tree, file, b"/", &cred)?,
-        Answer::Fault(13)
-    );
-    Ok(())
 }
 
 // WRITE to a file of at most as many bytes as one may have.

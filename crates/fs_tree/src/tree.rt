@@ -1,17 +1,18 @@
-ghost use Rattle.std.specs.Prelude.{◌≡◌, ℕ, ◌<◌, true, IfOk, OnOk, OnErr};
+ghost use Rattle.std.specs.Prelude.{◌≡◌, ℕ, ◌<◌, IfOk, OnOk, OnErr};
 ghost use Rattle.nfs_proto.specs.Arguments.{IsFit};
 ghost use Rattle.fs_rules.specs.Geometry.{IsWithinLimits};
 ghost use Rattle.fs_rules.specs.Fresh.{fresh, fresh_root};
 ghost use Rattle.fs_rules.specs.Good.{IsGood};
 ghost use Rattle.fs_rules.specs.Numbers.{first_free};
 ghost use Rattle.fs_rules.specs.Respond.{respond, IsPick, IsTold};
-ghost use Rattle.fs_tree.specs.Calls.{is_built};
+ghost use Rattle.fs_listing.specs.Listing.{listing};
 ghost use Rattle.fs_tree.specs.Meets.{Meets};
 
 use crate::call_bytes::call_bytes;
 use crate::numbers::first_free;
 use crate::procedures::carry_out;
 use crate::response::Response;
+use fs_listing::{Listing, listing};
 use fs_rules::{
     Answer, Call, Content, Cred, File, Geometry, NoMemory, PlainTree, ROOT, Slots, Stamp,
 };
@@ -76,6 +77,13 @@ impl Tree {
         first_free(&self.plain, start)
     }
 
+    /// The lines that tell all files, their names and their data (`docs/FORMATS.md`, "Listings").
+    pub fn listing(&self) -> Result<Listing, NoMemory>
+        ensures { IfOk result (λ lines. lines ≡ listing self.now) }
+    {
+        listing(self.alloc, &self.plain)
+    }
+
     /// Carries out a call for the caller `cred` at the moment `now`, and answers it as the rules of the
     /// file system say (`docs/FORMATS.md`, "The rules of the file system"). Where the call makes a file,
     /// `pick` is its number, which is what [`Tree::free_number`] gives for a memory node. On [`NoMemory`]
@@ -87,7 +95,6 @@ impl Tree {
         now: Stamp,
         pick: Option<u32>,
     ) -> Result<Answer, NoMemory>
-        requires built { is_built call.now ≡ true }
         requires fits { IsFit call.now }
         requires pick { (start : ℕ) × IsPick self.old call.now cred.now now start pick }
         ensures answer { (start : ℕ) → IsPick self.old call.now cred.now now start pick
@@ -110,7 +117,6 @@ impl Tree {
         now: Stamp,
         pick: Option<u32>,
     ) -> Result<Response, NoMemory>
-        requires built { is_built call.now ≡ true }
         requires fits { IsFit call.now }
         requires pick { (start : ℕ) × IsPick self.old call.now cred.now now start pick }
         ensures meets { (start : ℕ) → IsPick self.old call.now cred.now now start pick

@@ -53,34 +53,23 @@ pub does_come : (schedule : Schedule) (book : Book) (w : World) (e : Event) → 
 does_come schedule book w e stands within there allowed =
     next_is schedule book w e stands within there ∙ ap (λ b. cond b (Some e) None) allowed
 
--- an arrival may not come at a node that is not there, after the greatest number of arrivals, or where it is not heard
+-- an arrival may not come at a node that is not there, or after the greatest number of arrivals
 pub no_node : (g : Geometry) (book : Book) (node sec usec : ℕ) (bytes : List ℕ) → g.nodes ≤ node → may_come g book (event.Arrive node sec usec bytes) ≡ false
-no_node g book node sec usec bytes past = ap (λ b. b && (ltb (length book.arrivals) (2 ^ 32 - 1) && is_some (heard bytes))) (le-ltb node g.nodes past)
+no_node g book node sec usec bytes past = ap (λ b. b && ltb (length book.arrivals) (2 ^ 32 - 1)) (le-ltb node g.nodes past)
 
-too_many : (a b : Bool) → (a && (false && b)) ≡ false
-too_many true b = refl
-too_many false b = refl
+too_many : (a : Bool) → (a && false) ≡ false
+too_many true = refl
+too_many false = refl
 
 pub no_number : (g : Geometry) (book : Book) (node sec usec : ℕ) (bytes : List ℕ) → 2 ^ 32 - 1 ≤ length book.arrivals → may_come g book (event.Arrive node sec usec bytes) ≡ false
 no_number g book node sec usec bytes many =
-    ap (λ b. ltb node g.nodes && (b && is_some (heard bytes))) (le-ltb (length book.arrivals) (2 ^ 32 - 1) many) ∙ too_many (ltb node g.nodes) (is_some (heard bytes))
-
-not_heard_ : (a b : Bool) → (a && (b && false)) ≡ false
-not_heard_ true true = refl
-not_heard_ true false = refl
-not_heard_ false b = refl
-
-pub not_heard : (g : Geometry) (book : Book) (node sec usec : ℕ) (bytes : List ℕ) → heard bytes ≡ None → may_come g book (event.Arrive node sec usec bytes) ≡ false
-not_heard g book node sec usec bytes none =
-    ap (λ o. ltb node g.nodes && (ltb (length book.arrivals) (2 ^ 32 - 1) && is_some o)) none ∙ not_heard_ (ltb node g.nodes) (ltb (length book.arrivals) (2 ^ 32 - 1))
+    ap (λ b. ltb node g.nodes && b) (le-ltb (length book.arrivals) (2 ^ 32 - 1) many) ∙ too_many (ltb node g.nodes)
 
 -- and else it may
-pub may_arrive : (g : Geometry) (book : Book) (node sec usec : ℕ) (bytes : List ℕ) (request : Request) → node < g.nodes → length book.arrivals < 2 ^ 32 - 1 → heard bytes ≡ Some request
+pub may_arrive : (g : Geometry) (book : Book) (node sec usec : ℕ) (bytes : List ℕ) → node < g.nodes → length book.arrivals < 2 ^ 32 - 1
     → may_come g book (event.Arrive node sec usec bytes) ≡ true
-may_arrive g book node sec usec bytes request there few is =
-    ap (λ b. b && (ltb (length book.arrivals) (2 ^ 32 - 1) && is_some (heard bytes))) ((Decides-ltb node g.nodes).1 there)
-    ∙ ap (λ b. b && is_some (heard bytes)) ((Decides-ltb (length book.arrivals) (2 ^ 32 - 1)).1 few)
-    ∙ ap (λ o. is_some o) is
+may_arrive g book node sec usec bytes there few =
+    ap (λ b. b && ltb (length book.arrivals) (2 ^ 32 - 1)) ((Decides-ltb node g.nodes).1 there) ∙ (Decides-ltb (length book.arrivals) (2 ^ 32 - 1)).1 few
 
 -- ---- an arrival and its reply
 
@@ -117,9 +106,7 @@ no_place xs n most each above =
 pub record Answered (w after : World) (node : ℕ) (moment : Stamp) (bytes : List ℕ) (o : Outcome) : Type 0 where
   pub there : node < w.tree.geometry.nodes
   pub few : w.arrivals < 2 ^ 32 - 1
-  pub request : Request
-  pub is_heard : heard bytes ≡ Some request
-  pub comes : ComesTo w.tree after.tree o (effect w.tree request (w.arrivals + 1) moment)
+  pub comes : ComesTo w.tree after.tree o (effect w.tree (heard bytes) (w.arrivals + 1) moment)
   pub cluster : after.tree.geometry ≡ w.tree.geometry
   pub arrivals : after.arrivals ≡ w.arrivals + 1
   pub points : after.points ≡ points_after w.points o.change
@@ -191,7 +178,7 @@ module _ (schedule : Schedule) (book : Book) (w after : World) (node : ℕ) (mom
   it_comes : next_event schedule book ≡ Some (event.Arrive node moment.sec moment.usec bytes)
   it_comes =
       does_come schedule book w (event.Arrive node moment.sec moment.usec bytes) stands within next
-      (may_arrive w.tree.geometry book node moment.sec moment.usec bytes answered.request answered.there (omega (arith, answered.few, stands.arrivals)) answered.is_heard)
+      (may_arrive w.tree.geometry book node moment.sec moment.usec bytes answered.there (omega (arith, answered.few, stands.arrivals)))
 
   noted_first : noted schedule book (line.DoArrive number node) ≡ came
   unfolding noted number here came
@@ -221,12 +208,10 @@ module _ (schedule : Schedule) (book : Book) (w after : World) (node : ℕ) (mom
   no_point = ap (option_map (λ k. k + 1)) (no_place book.points number (length book.arrivals) stands.changed (omega (arith, stands.arrivals)))
 
   -- what it is answered where this many changes were made
-  responds : response came number w.tree ≡ effect w.tree answered.request number moment
+  responds : response came number w.tree ≡ effect w.tree (heard bytes) number moment
   unfolding number here came
   responds =
-      ap (option_and_then (λ (a : Arrival). option_and_then (λ request. effect w.tree request number a.moment) (heard a.bytes)))
-      (numbered_last book.arrivals here number (ap (λ (n : ℕ). n + 1) stands.arrivals))
-      ∙ ap (option_and_then (λ request. effect w.tree request number moment)) answered.is_heard
+      ap (option_and_then (λ (a : Arrival). effect w.tree (heard a.bytes) number a.moment)) (numbered_last book.arrivals here number (ap (λ (n : ℕ). n + 1) stands.arrivals))
 
   -- ---- where it leaves the tree as it is
 
@@ -241,13 +226,11 @@ module _ (schedule : Schedule) (book : Book) (w after : World) (node : ℕ) (mom
     unfolding book_after last still came
     still_is = noted_closing schedule (noted schedule book (line.DoArrive number node)) number w.points o.reply ∙ ap (λ (b : Book). record b { ended = b.ended ++ number ∷ [] }) noted_first
 
-    replies : (e : Effect) → effect w.tree answered.request number moment ≡ Some e → e.tree ≡ w.tree → Replies came number w.points e.reply
+    replies : (e : Effect) → effect w.tree (heard bytes) number moment ≡ Some e → e.tree ≡ w.tree → Replies came number w.points e.reply
     unfolding number here came
     replies e is unchanged = record {
       a = here;
       running = it_runs;
-      request = answered.request;
-      heard_as = answered.is_heard;
       tree = w.tree;
       e = e;
       answered = is;
@@ -256,24 +239,24 @@ module _ (schedule : Schedule) (book : Book) (w after : World) (node : ℕ) (mom
       is = refl;
     }
 
-    drops : effect w.tree answered.request number moment ≡ None → Drops came number why.Silent
+    drops : effect w.tree (heard bytes) number moment ≡ None → Drops came number why.Silent
     unfolding number here came
     drops silent = record {
       a = here;
       running = it_runs;
-      heard_as = answered.is_heard ∙ ap Some (no_reply w.tree answered.request number moment silent);
+      heard_as = no_reply w.tree (heard bytes) number moment silent;
       is = refl;
     }
 
     -- the line that ends it may come
-    allowed : (e : Option Effect) → effect w.tree answered.request number moment ≡ e → ComesTo w.tree after.tree o e → IsAllowed schedule came last
+    allowed : (e : Option Effect) → effect w.tree (heard bytes) number moment ≡ e → ComesTo w.tree after.tree o e → IsAllowed schedule came last
     unfolding last
     allowed (Some e) is comes = subst (λ (r : Option (List ℕ)). IsAllowed schedule came (closing number w.points r)) (sym comes.0) (replies e is (sym comes.1 ∙ same))
     allowed None is comes = subst (λ (r : Option (List ℕ)). IsAllowed schedule came (closing number w.points r)) (sym comes.0) (drops is)
 
     legal : IsLegalFrom schedule book (line.DoArrive number node ∷ last ∷ [])
     unfolding IsLegalFrom number
-    legal = (arrives, (subst (λ (b : Book). IsAllowed schedule b last) (sym noted_first) (allowed (effect w.tree answered.request number moment) refl answered.comes), tt))
+    legal = (arrives, (subst (λ (b : Book). IsAllowed schedule b last) (sym noted_first) (allowed (effect w.tree (heard bytes) number moment) refl answered.comes), tt))
 
     stands_still : Stands schedule still after
     unfolding number here came still
@@ -300,7 +283,7 @@ module _ (schedule : Schedule) (book : Book) (w after : World) (node : ℕ) (mom
 
   -- ---- where it changes the tree
 
-  module _ (e : Effect) (change : Change) (is : effect w.tree answered.request number moment ≡ Some e) (left : after.tree ≡ e.tree) (one : o.change ≡ Some change) (differs : after.tree ≢ w.tree) (made : change.made ≡ e.made) (sent : o.reply ≡ Some e.reply) where
+  module _ (e : Effect) (change : Change) (is : effect w.tree (heard bytes) number moment ≡ Some e) (left : after.tree ≡ e.tree) (one : o.change ≡ Some change) (differs : after.tree ≢ w.tree) (made : change.made ≡ e.made) (sent : o.reply ≡ Some e.reply) where
     point : ℕ
     point = w.points + 1
 
@@ -363,8 +346,6 @@ module _ (schedule : Schedule) (book : Book) (w after : World) (node : ℕ) (mom
     answers = record {
       a = here;
       running = still_runs;
-      request = answered.request;
-      heard_as = answered.is_heard;
       tree = w.tree;
       e = e;
       answered = is;
@@ -414,7 +395,7 @@ module _ (schedule : Schedule) (book : Book) (w after : World) (node : ℕ) (mom
   -- ---- both
 
   -- its lines are legal, and the world is where they leave it
-  by_change : (e : Option Effect) (c : Option Change) → effect w.tree answered.request number moment ≡ e → o.change ≡ c → ComesTo w.tree after.tree o e
+  by_change : (e : Option Effect) (c : Option Change) → effect w.tree (heard bytes) number moment ≡ e → o.change ≡ c → ComesTo w.tree after.tree o e
       → GoesOn schedule book after (line.DoArrive number node ∷ (change_lines number (points_after w.points c) c ++ closing number (points_after w.points c) o.reply ∷ []))
   unfolding last point ending
   by_change None None is one comes = goes_still one comes.2
@@ -428,24 +409,4 @@ module _ (schedule : Schedule) (book : Book) (w after : World) (node : ℕ) (mom
   unfolding number
   goes_on =
       subst (λ (p : ℕ). GoesOn schedule book after (arrival_lines (w.arrivals + 1) node p o)) (sym answered.points)
-      (by_change (effect w.tree answered.request (w.arrivals + 1) moment) o.change refl refl answered.comes)
-
--- ---- what one event tells of the schedule
-
--- an arrival that is heard, at a node that is there
-pub goes_behind : (g : Geometry) (node sec usec : ℕ) (bytes : List ℕ) (request : Request) → node < g.nodes → heard bytes ≡ Some request
-    → (behind : Bool) → reached g (event.Arrive node sec usec bytes) behind ≡ behind
-goes_behind g node sec usec bytes request there is behind =
-    ap (λ b. b && (is_some (heard bytes) && behind)) ((Decides-ltb node g.nodes).1 there) ∙ ap (λ o. is_some o && behind) is
-
--- one at another node
-pub no_node_behind : (g : Geometry) (node sec usec : ℕ) (bytes : List ℕ) → g.nodes ≤ node → (behind : Bool) → reached g (event.Arrive node sec usec bytes) behind ≡ false
-no_node_behind g node sec usec bytes past behind = ap (λ b. b && (is_some (heard bytes) && behind)) (le-ltb node g.nodes past)
-
--- one that is not heard
-pub not_heard_behind : (g : Geometry) (node sec usec : ℕ) (bytes : List ℕ) → heard bytes ≡ None → (behind : Bool) → reached g (event.Arrive node sec usec bytes) behind ≡ false
-not_heard_behind g node sec usec bytes none behind = ap (λ o. ltb node g.nodes && (is_some o && behind)) none ∙ and_false (ltb node g.nodes)
-  where
-    and_false : (b : Bool) → (b && false) ≡ false
-    and_false true = refl
-    and_false false = refl
+      (by_change (effect w.tree (heard bytes) (w.arrivals + 1) moment) o.change refl refl answered.comes)

@@ -1,5 +1,5 @@
 -- What the lines of a transcript say together: the arrivals, the changes and the trees after each of them.
-use Rattle.std.specs.Prelude.{ℕ, zero, suc, ◌+◌, ◌-◌, ◌^◌, ◌==◌, nat_lt, Bool, true, false, ◌&&◌, if◌then◌else◌, List, [], ◌∷◌, ◌++◌, length, slice_get, position, option_map, option_and_then, Option, Some, None, is_some}
+use Rattle.std.specs.Prelude.{ℕ, zero, suc, ◌+◌, ◌-◌, ◌^◌, ◌==◌, nat_lt, Bool, true, false, ◌&&◌, if◌then◌else◌, List, [], ◌∷◌, ◌++◌, length, slice_get, position, option_map, option_and_then, Option, Some, None}
 use Rattle.fs_rules.specs.declared.geometry.Geometry.{Geometry}
 use Rattle.nfs_proto.specs.declared.stamp.Stamp.{Stamp}
 use Rattle.fs_rules.specs.declared.plain_tree.PlainTree.{PlainTree}
@@ -48,10 +48,10 @@ opened_at None = record { lines = 0; arrivals = []; points = []; trees = []; end
 abbrev pub opened : Schedule → Book
 opened schedule = opened_at (cluster_of schedule)
 
--- whether an event may come: its node is there, not too many came before it, and it is built
+-- whether an event may come: its node is there, and not too many came before it
 abbrev pub may_come : Geometry → Book → Event → Bool
 may_come g book (event.Cluster nodes memories blocks inodes) = false
-may_come g book (event.Arrive node sec usec bytes) = nat_lt node g.nodes && (nat_lt (length book.arrivals) (2 ^ 32 - 1) && is_some (heard bytes))
+may_come g book (event.Arrive node sec usec bytes) = nat_lt node g.nodes && nat_lt (length book.arrivals) (2 ^ 32 - 1)
 may_come g book event.End = true
 
 -- the event of a line, if it may come
@@ -59,14 +59,14 @@ abbrev pub come_from : Geometry → Book → Option Event → Option Event
 come_from g book None = None
 come_from g book (Some e) = if may_come g book e then Some e else None
 
--- the event of the next line: none where the line is missing, outside the grammar, excluded, not built or beyond the
--- limit of lines, or where there is no cluster
+-- the event of the next line: none where the line is missing, outside the grammar, excluded or beyond the limit of lines,
+-- or where there is no cluster
 unfoldable pub next_event : Schedule → Book → Option Event
 next_event schedule book = option_and_then (λ g. if nat_lt book.lines MAX_LINES then option_and_then (come_from g book) (slice_get schedule book.lines) else None) (cluster_of schedule)
 
 -- what an arrival is answered in a tree
 abbrev pub response : Book → ℕ → PlainTree → Option Effect
-response book arrival t = option_and_then (λ a. option_and_then (λ request. effect t request arrival a.moment) (heard a.bytes)) (numbered book.arrivals arrival)
+response book arrival t = option_and_then (λ a. effect t (heard a.bytes) arrival a.moment) (numbered book.arrivals arrival)
 
 -- one more arrival
 abbrev pub with_arrival : Book → Option Event → Book

@@ -1,17 +1,16 @@
 -- Which schedules are read to their end, as a test of their lines alone.
-use Rattle.std.specs.Prelude.{ℕ, ◌+◌, nat_lt, Bool, true, false, ◌&&◌, [], ◌∷◌, drop, Some, None, is_some}
+use Rattle.std.specs.Prelude.{ℕ, ◌+◌, nat_lt, Bool, true, false, ◌&&◌, [], ◌∷◌, drop, Some, None}
 use Rattle.std.specs.Option.{option_map_or}
 use Rattle.fs_rules.specs.declared.geometry.Geometry.{Geometry}
 use Rattle.schedule_text.specs.declared.event.Event.{Event}
 use Rattle.schedule_text.specs.declared.event.Event.TheVariants.{Cluster, Arrive, End}
 use Rattle.schedule_text.specs.declared.limits.TheConstants.{MAX_LINES}
-use Rattle.sfs.specs.Reply.{heard}
 use Rattle.sfs.specs.Schedule.{Schedule, cluster_of}
 
--- an event ends the schedule, or it is an arrival at a node that is there, which is heard, and the lines behind it reach the end
+-- an event ends the schedule, or it is an arrival at a node that is there, and the lines behind it reach the end
 abbrev pub reached : Geometry → Event → Bool → Bool
 reached g (Cluster nodes memories blocks inodes) behind = false
-reached g (Arrive node sec usec bytes) behind = nat_lt node g.nodes && (is_some (heard bytes) && behind)
+reached g (Arrive node sec usec bytes) behind = nat_lt node g.nodes && behind
 reached g End behind = true
 
 -- these lines, before which so many stand, reach the end: each is an event, and within the limit of lines

@@ -9,7 +9,6 @@ use Rattle.schedule_text.specs.declared.line.Line.{Line}
 use Rattle.schedule_text.specs.declared.line.Line.TheVariants as line
 use Rattle.schedule_text.specs.Grammar.{spelling_of_line}
 use Rattle.sfs.specs.Schedule.{Schedule}
-use Rattle.sfs.specs.declared.request.Request.{Request}
 use Rattle.sfs.specs.declared.request.Request.TheVariants as request
 use Rattle.sfs.specs.Reply.{heard, Effect, effect}
 use Rattle.sfs.specs.Book.{Book, Arrival, numbered, point_of, last_tree, opened, next_event, response, noted}
@@ -59,11 +58,9 @@ HoldsAt book a e at t None = (a.points ≤ at) × (at ≤ length book.points) ×
 pub record Replies (book : Book) (arrival at : ℕ) (bytes : List ℕ) : Type 0 where
   pub a : Arrival
   pub running : IsRunning book arrival a
-  pub request : Request
-  pub heard_as : heard a.bytes ≡ Some request
   pub tree : PlainTree
   pub e : Effect
-  pub answered : effect tree request arrival a.moment ≡ Some e
+  pub answered : effect tree (heard a.bytes) arrival a.moment ≡ Some e
   pub holds : HoldsAt book a e at tree (point_of book arrival)
   pub is : bytes ≡ e.reply
 
@@ -71,7 +68,7 @@ pub record Replies (book : Book) (arrival at : ℕ) (bytes : List ℕ) : Type 0 
 pub record Drops (book : Book) (arrival : ℕ) (reason : DropWhy) : Type 0 where
   pub a : Arrival
   pub running : IsRunning book arrival a
-  pub heard_as : heard a.bytes ≡ Some request.Silent
+  pub heard_as : heard a.bytes ≡ request.Silent
   pub is : reason ≡ why.Silent
 
 -- `refused N`: line N is the next of the schedule, and no event that may come

@@ -1,5 +1,5 @@
 -- What some bytes are heard as, and what they are answered.
-use Rattle.std.specs.Prelude.{◌≡◌, ℕ, ◌%◌, ◌==◌, Bool, true, ◌||◌, if◌then◌else◌, List, [], length, Option, Some, None, Result, Ok, Err}
+use Rattle.std.specs.Prelude.{◌≡◌, ℕ, ◌%◌, ◌==◌, Bool, ◌||◌, if◌then◌else◌, List, [], length, Option, Some, None, Result, Ok, Err}
 use Rattle.sfs_xdr.specs.declared.arg_fault.ArgFault.{ArgFault}
 use Rattle.rpc_msg.specs.declared.cred.Cred.{Cred}
 use Rattle.rpc_msg.specs.Messages.{accepted, garbage_arguments}
@@ -15,7 +15,6 @@ use Rattle.nfs_proto.specs.Answers.{answer_spelling}
 use Rattle.mount_proto.specs.Mount.{answer_of}
 use Rattle.fs_rules.specs.declared.plain_tree.PlainTree.{PlainTree}
 use Rattle.fs_rules.specs.Respond.{Responded, respond}
-use Rattle.fs_tree.specs.Calls.{is_built}
 use Rattle.schedule_text.specs.Words.{HasDatagramLength}
 use Rattle.sfs.specs.declared.request.Request.{Request}
 use Rattle.sfs.specs.declared.request.Request.TheVariants as request
@@ -26,53 +25,50 @@ use Rattle.sfs.specs.declared.request.Request.TheVariants as request
 abbrev pub does_nothing : Call → Bool
 does_nothing call = (procedure_of call == 0) || ((procedure_of call == 3) || (procedure_of call == 7))
 
--- what a call of the file system asks for, where it is built
-abbrev pub built : ℕ → Call → Cred → Option Request
-built xid call cred =
-    if does_nothing call then Some (request.Told (accepted xid [])) else if is_built call then Some (request.Asked xid call cred) else None
+-- what a call of the file system asks for
+abbrev pub called : ℕ → Call → Cred → Request
+called xid call cred = if does_nothing call then request.Told (accepted xid []) else request.Asked xid call cred
 
 -- what the arguments of a call of NFS ask for; arguments out of form are refused
-abbrev pub with_arguments : ℕ → Cred → Result Call ArgFault → Option Request
-with_arguments xid cred (Ok call) = built xid call cred
-with_arguments xid cred (Err fault) = Some (request.Told (garbage_arguments xid))
+abbrev pub with_arguments : ℕ → Cred → Result Call ArgFault → Request
+with_arguments xid cred (Ok call) = called xid call cred
+with_arguments xid cred (Err fault) = request.Told (garbage_arguments xid)
 
-abbrev pub asked_of_files : Called (List ℕ) → Option Request
+abbrev pub asked_of_files : Called (List ℕ) → Request
 asked_of_files c = with_arguments c.xid c.cred (args_of c.procedure c.arguments)
 
 -- what a call of the mount protocol asks for
-abbrev pub with_mount : ℕ → Result (List ℕ) ArgFault → Option Request
-with_mount xid (Ok body) = Some (request.Told (accepted xid body))
-with_mount xid (Err fault) = Some (request.Told (garbage_arguments xid))
+abbrev pub with_mount : ℕ → Result (List ℕ) ArgFault → Request
+with_mount xid (Ok body) = request.Told (accepted xid body)
+with_mount xid (Err fault) = request.Told (garbage_arguments xid)
 
-abbrev pub asked_to_mount : Called (List ℕ) → Option Request
+abbrev pub asked_to_mount : Called (List ℕ) → Request
 asked_to_mount c = with_mount c.xid (answer_of c.procedure c.arguments)
 
--- what a call asks for, where it is built
-abbrev pub asked : Called (List ℕ) → Option Request
+-- what a call asks for
+abbrev pub asked : Called (List ℕ) → Request
 asked c = if c.program == 100003 then asked_of_files c else asked_to_mount c
 
--- what an outcome asks for, where it is built
-abbrev pub requested : Outcome (List ℕ) → Option Request
+-- what an outcome asks for
+abbrev pub requested : Outcome (List ℕ) → Request
 requested (heard_as.Call c) = asked c
-requested (heard_as.Refuse reply) = Some (request.Told reply)
-requested heard_as.Silent = Some request.Silent
+requested (heard_as.Refuse reply) = request.Told reply
+requested heard_as.Silent = request.Silent
 
-abbrev pub heard : List ℕ → Option Request
+abbrev pub heard : List ℕ → Request
 heard bytes = requested (heard_of as_they_are bytes)
 
 -- a reply that is told has the length of a datagram
-abbrev pub IsSized : Option Request → Type 0
-IsSized None = Unit {0}
-IsSized (Some (request.Told reply)) = HasDatagramLength reply
-IsSized (Some request.Silent) = Unit {0}
-IsSized (Some (request.Asked xid call cred)) = Unit {0}
+abbrev pub IsSized : Request → Type 0
+IsSized (request.Told reply) = HasDatagramLength reply
+IsSized request.Silent = Unit {0}
+IsSized (request.Asked xid call cred) = Unit {0}
 
--- a call of the file system is built, and what it names is not too long
-abbrev pub IsBuilt : Option Request → Type 0
-IsBuilt None = Unit {0}
-IsBuilt (Some (request.Told reply)) = Unit {0}
-IsBuilt (Some request.Silent) = Unit {0}
-IsBuilt (Some (request.Asked xid call cred)) = (is_built call ≡ true) × IsFit call
+-- what a call of the file system names is not too long
+abbrev pub AsksFit : Request → Type 0
+AsksFit (request.Told reply) = Unit {0}
+AsksFit request.Silent = Unit {0}
+AsksFit (request.Asked xid call cred) = IsFit call
 
 -- ---- what it is answered
 

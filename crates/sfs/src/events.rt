@@ -89,9 +89,7 @@ impl World {
         if node >= self.tree.geometry().nodes || self.arrivals == u32::MAX {
             return Ok(Step::Refused);
         }
-        let Some(request) = Request::read(alloc, bytes.as_slice())? else {
-            return Ok(Step::Refused);
-        };
+        let request = Request::read(alloc, bytes.as_slice())?;
         let arrival = self.arrivals + 1;
         let outcome = Outcome::of(alloc, &mut self.tree, request, arrival, moment)?;
         self.arrivals = arrival;

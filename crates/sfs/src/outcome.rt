@@ -2,7 +2,7 @@ ghost use Rattle.std.specs.Prelude.{◌≡◌, ℕ, ◌%◌, Some, None, IfOk, O
 ghost use Rattle.rpc_msg.specs.declared.cred.Cred.{Cred as TheCred};
 ghost use Rattle.nfs_proto.specs.declared.stamp.Stamp.{Stamp as TheStamp};
 ghost use Rattle.fs_rules.specs.Respond.{IsPick};
-ghost use Rattle.sfs.specs.Reply.{effect, IsSized, IsBuilt};
+ghost use Rattle.sfs.specs.Reply.{effect, IsSized, AsksFit};
 ghost use Rattle.sfs.specs.Outcome.{ComesTo, IsSizedReply, IsSpelledChange};
 
 use crate::reply::reply_to;
@@ -30,10 +30,10 @@ impl Outcome {
         arrival: u32,
         now: Stamp,
     ) -> Result<Outcome, NoMemory>
-        requires { IsBuilt (Some request) }
+        requires { AsksFit request }
         ensures comes { IfOk result (λ o. ComesTo tree.old tree.new o (effect tree.old request arrival now)) }
         ensures cluster { OnOk result (tree.new.geometry ≡ tree.old.geometry) }
-        ensures sized { IsSized (Some request) → IfOk result (λ o. IsSizedReply o.reply) }
+        ensures sized { IsSized request → IfOk result (λ o. IsSizedReply o.reply) }
         ensures spelled { IfOk result (λ o. IsSpelledChange o.change) }
     {
         match request {

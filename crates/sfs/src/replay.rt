@@ -18,7 +18,7 @@ use std::alloc::Global;
 
 /// Replays a schedule, and writes its transcript: each line of the schedule is read, handled and answered
 /// before the next is read. It ends at the event that ends the schedule, or at the first line that is
-/// missing, outside the grammar, excluded or not built, which is refused by its number.
+/// missing, outside the grammar or excluded, which is refused by its number.
 /// [`Stop::ReadFault`]: the source failed. [`Stop::WriteFault`]: the sink failed. [`Stop::NoMemory`]: memory
 /// ran out. The rule is "The transcript" of docs/FORMATS.md.
 pub fn replay_schedule<S: Source, K: Sink>(

@@ -1,13 +1,13 @@
-ghost use Rattle.std.specs.Prelude.{◌≡◌, ◌≤◌, ℕ, List, length, Some, Ok, Err, IfOk};
+ghost use Rattle.std.specs.Prelude.{◌≡◌, ◌≤◌, ℕ, List, length, Ok, Err, IfOk};
 ghost use Rattle.sfs_xdr.specs.Items.{words};
 ghost use Rattle.sfs_xdr.specs.declared.arg_fault.ArgFault.TheVariants as fault;
 ghost use Rattle.nfs_proto.specs.Arguments.{args_of, IsFit};
 ghost use Rattle.rpc_msg.specs.Messages.{accepted, garbage_arguments};
 ghost use Rattle.sfs.specs.declared.request.Request.TheVariants as request;
 ghost use Rattle.rpc_msg.specs.Laws.{called_of};
-ghost use Rattle.sfs.specs.Reply.{heard, asked, asked_of_files, asked_to_mount, built, does_nothing, IsSized, IsBuilt};
+ghost use Rattle.sfs.specs.Reply.{heard, asked, asked_of_files, asked_to_mount, called, does_nothing, IsSized, AsksFit};
 
-use fs_tree::{Call, Cred, is_built};
+use fs_tree::{Call, Cred};
 use mount_proto::ArgFault;
 use nfs_proto::read_args;
 use rpc_msg::{Heard, NFS, RpcCall, read_call, write_garbage, write_reply};
@@ -26,24 +26,24 @@ pub enum Request {
 }
 
 impl Request {
-    /// What these bytes ask for; `None` where it is a call that is not built.
-    pub fn read(alloc: Global, bytes: &[u8]) -> Result<Option<Request>, NoMemory>
+    /// What these bytes ask for.
+    pub fn read(alloc: Global, bytes: &[u8]) -> Result<Request, NoMemory>
         ensures exact { IfOk result (λ request. request ≡ heard bytes.now) }
         ensures sized { IfOk result IsSized }
-        ensures built { IfOk result IsBuilt }
+        ensures fits { IfOk result AsksFit }
     {
         match read_call(alloc, bytes)? {
             Heard::Call(call) => Request::of_call(alloc, call),
-            Heard::Refuse(reply) => Ok(Some(Request::Told(reply))),
-            Heard::Silent => Ok(Some(Request::Silent)),
+            Heard::Refuse(reply) => Ok(Request::Told(reply)),
+            Heard::Silent => Ok(Request::Silent),
         }
     }
 
     // What a call of a procedure that is there asks for.
-    fn of_call(alloc: Global, call: RpcCall) -> Result<Option<Request>, NoMemory>
+    fn of_call(alloc: Global, call: RpcCall) -> Result<Request, NoMemory>
         ensures exact { IfOk result (λ request. request ≡ asked (called_of call)) }
         ensures sized { IfOk result IsSized }
-        ensures built { IfOk result IsBuilt }
+        ensures fits { IfOk result AsksFit }
     {
         if call.program == NFS {
             Request::of_files(alloc, call)
@@ -53,44 +53,41 @@ impl Request {
     }
 
     // What a call of NFS asks for.
-    fn of_files(alloc: Global, call: RpcCall) -> Result<Option<Request>, NoMemory>
+    fn of_files(alloc: Global, call: RpcCall) -> Result<Request, NoMemory>
         ensures exact { IfOk result (λ request. request ≡ asked_of_files (called_of call)) }
         ensures sized { IfOk result IsSized }
-        ensures built { IfOk result IsBuilt }
+        ensures fits { IfOk result AsksFit }
     {
         match read_call_of_files(alloc, call.procedure, call.args.as_slice()) {
-            Ok(asked) => Request::of_built(alloc, call.xid, asked, call.cred),
+            Ok(asked) => Request::called(alloc, call.xid, asked, call.cred),
             Err(ArgFault::NoMemory) => Err(NoMemory),
             Err(_) => Request::garbage(alloc, call.xid),
         }
     }
 
-    // What a call of the file system asks for: some do nothing, and others may not be built.
-    fn of_built(
+    // What a call of the file system asks for: some do nothing.
+    fn called(
         alloc: Global,
         xid: u32,
         call: Call,
         cred: Cred,
-    ) -> Result<Option<Request>, NoMemory>
+    ) -> Result<Request, NoMemory>
         requires { IsFit call }
-        ensures exact { IfOk result (λ request. request ≡ built xid call cred) }
+        ensures exact { IfOk result (λ request. request ≡ called xid call cred) }
         ensures sized { IfOk result IsSized }
-        ensures built { IfOk result IsBuilt }
+        ensures fits { IfOk result AsksFit }
     {
         if does_nothing(&call) {
             return Request::told(alloc, xid, &[]);
         }
-        if !is_built(&call) {
-            return Ok(None);
-        }
-        Ok(Some(Request::Asked { xid, call, cred }))
+        Ok(Request::Asked { xid, call, cred })
     }
 
     // What a call of the mount protocol asks for.
-    fn of_mount(alloc: Global, call: &RpcCall) -> Result<Option<Request>, NoMemory>
+    fn of_mount(alloc: Global, call: &RpcCall) -> Result<Request, NoMemory>
         ensures exact { IfOk result (λ request. request ≡ asked_to_mount (called_of call.now)) }
         ensures sized { IfOk result IsSized }
-        ensures built { IfOk result IsBuilt }
+        ensures fits { IfOk result AsksFit }
     {
         match mount_proto::answer(alloc, call.procedure, call.args.as_slice()) {
             Ok(body) => Request::told(alloc, call.xid, body.as_slice()),
@@ -100,21 +97,21 @@ impl Request {
     }
 
     // It gets the accepted reply with this result.
-    fn told(alloc: Global, xid: u32, body: &[u8]) -> Result<Option<Request>, NoMemory>
-        ensures exact { IfOk result (λ r. r ≡ Some (request.Told (accepted xid body.now))) }
+    fn told(alloc: Global, xid: u32, body: &[u8]) -> Result<Request, NoMemory>
+        ensures exact { IfOk result (λ r. r ≡ request.Told (accepted xid body.now)) }
         ensures sized { (numbers : List ℕ) → length numbers ≤ 18 → body.now ≡ words numbers → IfOk result IsSized }
-        ensures built { IfOk result IsBuilt }
+        ensures fits { IfOk result AsksFit }
     {
-        Ok(Some(Request::Told(Bytes::from(write_reply(alloc, xid, body)?))))
+        Ok(Request::Told(Bytes::from(write_reply(alloc, xid, body)?)))
     }
 
     // Its arguments are out of form.
-    fn garbage(alloc: Global, xid: u32) -> Result<Option<Request>, NoMemory>
-        ensures exact { IfOk result (λ r. r ≡ Some (request.Told (garbage_arguments xid))) }
+    fn garbage(alloc: Global, xid: u32) -> Result<Request, NoMemory>
+        ensures exact { IfOk result (λ r. r ≡ request.Told (garbage_arguments xid)) }
         ensures sized { IfOk result IsSized }
-        ensures built { IfOk result IsBuilt }
+        ensures fits { IfOk result AsksFit }
     {
-        Ok(Some(Request::Told(Bytes::from(write_garbage(alloc, xid)?))))
+        Ok(Request::Told(Bytes::from(write_garbage(alloc, xid)?)))
     }
 }
 

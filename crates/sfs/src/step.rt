@@ -11,6 +11,6 @@ pub enum Step {
     On(Lines),
     /// It ends the schedule.
     Ended,
-    /// It is excluded or not built, and nothing changed.
+    /// It is excluded, and nothing changed.
     Refused,
 }

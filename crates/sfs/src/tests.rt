@@ -42,12 +42,6 @@ end
 /// The bytes of the transcript up to the end of the replies to the first and the second arrival.
 const AFTER_ARRIVALS: [usize; 2] = [220, 440];
 
-/// A schedule with a call of RENAME, which is not built.
-const NOT_BUILT: &[u8] = b"cluster 1 1 1 1
-arrive 0 0 0 000000090000000000000002000186a3000000020000000b000000000000000000000000000000005346533100000001000000010000000000000000000000000000000000000000000000016100000053465331000000010000000100000000000000000000000000000000000000000000000162000000
-end
-";
-
 /// SETATTR of the root's mode by its owner, GETATTR, SETATTR by another user, and again by the owner.
 const CHANGES: &[u8] = b"cluster 1 2 64 64
 arrive 0 100 5 000000010000000000000002000186a300000002000000020000000100000014000000000000000000000000000000000000000000000000000000005346533100000001000000010000000000000000000000000000000000000000000001c0ffffffffffffffffffffffffffffffffffffffffffffffffffffffff
@@ -518,7 +512,7 @@ fn a_schedule_is_refused_by_the_number_of_its_line(rt: HostRuntime) -> Result<()
         (b"cluster 0 1 1 1\nend\n", b"refused 1\n"),
         (b"cluster 1 1 1 1\n", b"refused 2\n"),
         (b"cluster 1 1 1 1\ncluster 1 1 1 1\nend\n", b"refused 2\n"),
-        (NOT_BUILT, b"refused 2\n"),
+        (b"cluster 1 1 1 1\narrive 1 0 0 00\nend\n", b"refused 2\n"),
     ];
     for (text, transcript) in refused {
         let mut input = source(rt.alloc(), text, &[])?;

@@ -5,6 +5,6 @@ pub enum Turn {
     On,
     /// The next event ends the schedule.
     Ended,
-    /// The next line is missing, outside the grammar, excluded or not built.
+    /// The next line is missing, outside the grammar or excluded.
     Refused,
 }

@@ -1,4 +1,4 @@
-use Rattle.std.proofs.Common.{◌≡◌, ℕ, None, Some, length, refl, sym, ap, ◌∙◌, rules, arith}
+use Rattle.std.proofs.Common.{◌≡◌, ℕ, None, Some, length, sym, ap, ◌∙◌, rules}
 use Rattle.nfs_proto.specs.declared.call.Call.TheVariants.{Link}
 use Rattle.nfs_proto.specs.declared.stamp.Stamp.{Stamp}
 use Rattle.fs_rules.specs.Handle.{number_in}

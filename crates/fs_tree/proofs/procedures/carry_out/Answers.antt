@@ -1,8 +1,8 @@
-use Rattle.std.proofs.Common.{◌≡◌, ◌≤◌, ℕ, List, length, sym, ap, subst, ◌∙◌, arith}
+use Rattle.std.proofs.Common.{◌≡◌, ◌≤◌, ℕ, List, length, sym, ap, subst, ◌∙◌}
 use Rattle.std.specs.Prelude.{IfOk}
 use Rattle.nfs_proto.specs.declared.answer.Answer.TheVariants.{Empty}
 use Rattle.nfs_proto.specs.declared.call.Call.{Call}
-use Rattle.nfs_proto.specs.declared.call.Call.TheVariants.{Create, SymLink, MakeDir}
+use Rattle.nfs_proto.specs.declared.call.Call.TheVariants.{Create, SymLink, MakeDir, Rename}
 use Rattle.nfs_proto.specs.Arguments.{IsFit}
 use Rattle.fs_rules.specs.Respond.{respond, IsPick}
 use Rattle.fs_rules.specs.Reading.{lookup_answer}
@@ -51,7 +51,12 @@ returns-in-Create-clause-meets c start =
     subst P (sym c.in-Create.is) (subst (λ (name : List ℕ). P (Create c.in-Create.dir name c.in-Create.set)) c.as_slice-in-Create.ensures.value (c.create.ensures.meets start))
 
 pub returns-in-Rename-clause-meets : goal.returns-in-Rename-clause-meets
-returns-in-Rename-clause-meets c start pick = absurd (let built = c.requires.built in let is = c.in-Rename.is in grind arith)
+returns-in-Rename-clause-meets c start pick =
+    let t = c.args.tree.now in
+    let P : Call → Type 0 = λ k. IfOk c.rename.result (Meets t (respond t k c.args.cred.now c.args.now start) c.rename.new.tree) in
+    subst P (sym c.in-Rename.is)
+    (subst (λ (to_name : List ℕ). P (Rename c.in-Rename.from c.in-Rename.from_name c.in-Rename.to to_name)) c.as_slice-in-Rename-2.ensures.value
+    (subst (λ (name : List ℕ). P (Rename c.in-Rename.from name c.in-Rename.to c.as_slice-in-Rename-2.result.now)) c.as_slice-in-Rename.ensures.value (c.rename.ensures.meets start)))
 
 pub returns-in-MakeDir-clause-meets : goal.returns-in-MakeDir-clause-meets
 returns-in-MakeDir-clause-meets c start =

@@ -1,13 +1,14 @@
-use Rattle.std.proofs.Common.{◌≡◌, ◌+◌, Some, None, sym, ap, subst, ◌∙◌, arith}
+use Rattle.std.proofs.Common.{◌≡◌, ◌+◌, sym, ap, subst, ◌∙◌, arith}
 use Rattle.std.specs.Prelude.{◌≤◌, ◌<◌}
 use Rattle.schedule_text.specs.declared.event.Event.TheVariants as event
 use Rattle.fs_rules.specs.declared.geometry.Geometry.{Geometry}
 use Rattle.fs_rules.specs.declared.plain_tree.PlainTree.{PlainTree}
+use Rattle.sfs.specs.declared.request.Request.{Request}
 use Rattle.sfs.specs.declared.world.World.{World}
 use Rattle.sfs.specs.Reply.{heard, effect}
 use Rattle.sfs.specs.Outcome.{ComesTo}
 use Rattle.sfs.specs.World.{GoesOn}
-use Rattle.sfs.proofs.EventLemmas.{not_come, no_node, no_number, not_heard, Counted, counted_one, counted_none, goes_on}
+use Rattle.sfs.proofs.EventLemmas.{not_come, no_node, no_number, Counted, counted_one, counted_none, goes_on}
 use Rattle.sfs.proofs.world.World.arrive.Goals as goal
 use Rattle.sfs.proofs.world.World.arrive.Goals.{then-node-geometry-via-then-node-geometry, then-node-geometry-via-else-node-geometry+then-self, then-is_some, else-is_some}
 
@@ -22,17 +23,9 @@ returns-then-node-geometry-clause-step c schedule book stands within next =
           no_number g book c.args.node c.args.moment.sec c.args.moment.usec c.args.bytes.now (omega (arith, w.if-self.true, stands.arrivals))
     ])
 
-pub returns-in_default-clause-step : goal.returns-in_default-clause-step
-returns-in_default-clause-step c schedule book stands within next =
-    let none : heard c.args.bytes.now ≡ None =
-    ap (λ bytes. heard bytes) (sym c.as_slice.ensures.value) ∙ sym ((c.in_ok-request.ensures {u = tt}).exact) ∙ c.in_default.is in
-    not_come schedule book c.args.self.now (event.Arrive c.args.node c.args.moment.sec c.args.moment.usec c.args.bytes.now) stands within next
-    (not_heard c.args.self.now.tree.geometry book c.args.node c.args.moment.sec c.args.moment.usec c.args.bytes.now none)
-
 pub returns-clause-step : goal.returns-clause-step
 returns-clause-step c schedule book stands within next =
-    let some : heard c.args.bytes.now ≡ Some c.in-Some.request =
-    ap (λ bytes. heard bytes) (sym c.as_slice.ensures.value) ∙ sym ((c.in_ok-request.ensures {u = tt}).exact) ∙ c.in-Some.is in
+    let is : c.in_ok-request.request ≡ heard c.args.bytes.now = (c.in_ok-request.ensures {u = tt}).exact ∙ ap heard c.as_slice.ensures.value in
     let came = c.in_ok-outcome.ensures {u = tt} in
     let counted : Counted c.args.self.now c.of.new.tree c.in_ok-outcome.outcome.change c.if-is_some.self = elim c.if-is_some.branch [
       | then-is_some v ↦ record {
@@ -50,9 +43,8 @@ returns-clause-step c schedule book stands within next =
     (goes_on schedule book c.args.self.now c.if-is_some.self c.args.node c.args.moment c.args.bytes.now c.in_ok-outcome.outcome stands within next (record {
       there = subst (λ (k : Geometry). c.args.node < k.nodes) c.geometry.ensures.value c.if-node-geometry.false;
       few = omega arith;
-      request = c.in-Some.request;
-      is_heard = some;
-      comes = subst (λ (t : PlainTree). ComesTo c.args.self.now.tree t c.in_ok-outcome.outcome (effect c.args.self.now.tree c.in-Some.request (c.args.self.now.arrivals + 1) c.args.moment)) (sym counted.tree_is) came.comes;
+      comes = subst (λ (t : PlainTree). ComesTo c.args.self.now.tree t c.in_ok-outcome.outcome (effect c.args.self.now.tree (heard c.args.bytes.now) (c.args.self.now.arrivals + 1) c.args.moment)) (sym counted.tree_is)
+          (subst (λ (r : Request). ComesTo c.args.self.now.tree c.of.new.tree c.in_ok-outcome.outcome (effect c.args.self.now.tree r (c.args.self.now.arrivals + 1) c.args.moment)) is came.comes);
       cluster = ap (λ (t : PlainTree). t.geometry) counted.tree_is ∙ came.cluster;
       arrivals = counted.arrivals;
       points = counted.points;
