@@ -1,7 +1,7 @@
 ghost use Rattle.std.specs.Prelude.{◌≤◌, length, IfOk};
 ghost use Rattle.nfs_proto.specs.Arguments.{IsFit};
 
-use crate::tests::{MOMENT, NOTHING, caller, fresh_tree, pick_for};
+use crate::tests::{MOMENT, NOTHING, caller, fresh_tree, pick_for, set_root};
 use crate::*;
 use std::alloc::Global;
 use std::process::Abort;
@@ -14,6 +14,7 @@ type Place<'a> = (u32, &'a [u8]);
 #[derive(Clone, Copy)]
 enum Do<'a> {
     Create(Place<'a>),
+    CreateWith(Place<'a>, Sattr),
     MakeDir(Place<'a>),
     SymLink(Place<'a>),
     Link(u32, Place<'a>),
@@ -49,6 +50,11 @@ fn call_of(alloc: Global, tree: &Tree, what: Do) -> Result<Call, NoMemory>
             dir: handle(tree, dir),
             name: name_of(alloc, name)?,
             set: NOTHING,
+        },
+        Do::CreateWith((dir, name), set) => Call::Create {
+            dir: handle(tree, dir),
+            name: name_of(alloc, name)?,
+            set,
         },
         Do::MakeDir((dir, name)) => Call::MakeDir {
             dir: handle(tree, dir),
@@ -101,7 +107,7 @@ fn told(tree: &Tree, number: u32) -> Option<(u32, u64, u32)> {
         .map(|f| (f.links, f.change, f.size))
 }
 
-use Do::{Create, Link, MakeDir, Remove, RemoveDir, Rename, SymLink};
+use Do::{Create, CreateWith, Link, MakeDir, Remove, RemoveDir, Rename, SymLink};
 
 // The statuses of the calls that make names: 0, or that of RFC 1094. The numbers go from 2 on in order.
 const MADE: [(Do, u32); 17] = [
@@ -124,8 +130,72 @@ const MADE: [(Do, u32); 17] = [
     (SymLink((9, b"a")), 70),
 ];
 
+// A name of one byte more than one may have.
+const LONG: &[u8] = &[b'a'; MAX_NAME_BYTES + 1];
+
+// A name that is too long is told before anything is looked for.
+const TOO_LONG: [(Do, u32); 9] = [
+    (MakeDir((1, b"d")), 0),
+    (Create((1, LONG)), 63),
+    (MakeDir((1, LONG)), 63),
+    (SymLink((1, LONG)), 63),
+    (Link(2, (1, LONG)), 63),
+    (Remove((1, LONG)), 63),
+    (RemoveDir((1, LONG)), 63),
+    (Rename((1, LONG), (1, b"x")), 63),
+    (Rename((1, b"x"), (1, LONG)), 63),
+];
+
+// In a directory that is closed to the caller.
+const CLOSED: [(Do, u32); 8] = [
+    (Create((1, b"f")), 13),
+    (MakeDir((1, b"f")), 13),
+    (SymLink((1, b"f")), 13),
+    (Link(1, (1, b"f")), 13),
+    (Remove((1, b"f")), 13),
+    (RemoveDir((1, b"f")), 13),
+    (Rename((1, b"f"), (1, b"g")), 13),
+    (Create((60, b"f")), 70),
+];
+
+// What CREATE sets: a mode whose type is not that of a regular file, and a size above the greatest.
+const OF_ANOTHER_TYPE: Sattr = Sattr {
+    mode: 0o040_644,
+    ..NOTHING
+};
+
+const READ_ONLY: Sattr = Sattr {
+    mode: 0o100_444,
+    ..NOTHING
+};
+
+const TOO_LARGE: Sattr = Sattr {
+    size: MAX_FILE_BYTES + 1,
+    ..NOTHING
+};
+
+const SIZED: [(Do, u32); 4] = [
+    (CreateWith((1, b"f"), OF_ANOTHER_TYPE), 6),
+    (CreateWith((1, b"f"), TOO_LARGE), 27),
+    (CreateWith((1, b"f"), READ_ONLY), 0),
+    (CreateWith((1, b"f"), TOO_LARGE), 27),
+];
+
+// In a cluster whose blocks are used up by the first 15 names of the root, no name finds room in a new block.
+const FULL: [(Do, u32); 9] = [
+    (Create((1, b"p")), 28),
+    (MakeDir((1, b"p")), 28),
+    (SymLink((1, b"p")), 28),
+    (Link(2, (1, b"p")), 28),
+    (Rename((1, b"a"), (1, b"p")), 28),
+    (Rename((1, b"a"), (1, b"b")), 0),
+    (Link(2, (1, b"p")), 0),
+    (Remove((1, b"p")), 0),
+    (Create((1, b"p")), 0),
+];
+
 // Those of the calls that give and take names, behind the first three of them.
-const GIVEN_AND_TAKEN: [(Do, u32); 22] = [
+const GIVEN_AND_TAKEN: [(Do, u32); 24] = [
     (Create((1, b"f")), 0),
     (MakeDir((1, b"d")), 0),
     (Create((3, b"x")), 0),
@@ -141,6 +211,8 @@ const GIVEN_AND_TAKEN: [(Do, u32); 22] = [
     (Remove((1, b"d")), 21),
     (Remove((2, b"x")), 20),
     (Remove((9, b"x")), 70),
+    (RemoveDir((60, b"x")), 70),
+    (RemoveDir((2, b"x")), 20),
     (RemoveDir((1, b"x")), 2),
     (RemoveDir((1, b".")), 13),
     (RemoveDir((1, b"f")), 20),
@@ -222,6 +294,39 @@ fn calls_that_give_and_take_names_have_their_statuses(rt: HostRuntime) -> Result
     assert_eq!(rt; told(&tree, 3), None);
     assert_eq!(rt; told(&tree, ROOT), Some((2, 5, 4_096)));
     Ok(())
+}
+
+#[test]
+fn a_long_name_and_a_closed_directory_are_refused(rt: HostRuntime) -> Result<(), Fail> {
+    let alloc = rt.alloc();
+    let mut tree = fresh_tree(alloc)?;
+    compare(&rt, alloc, &mut tree, &TOO_LONG)?;
+    compare(&rt, alloc, &mut tree, &SIZED)?;
+    let closed = Sattr {
+        mode: 0o700,
+        ..NOTHING
+    };
+    let superuser = caller(alloc, 0, 0)?;
+    set_root(&mut tree, closed, &superuser)?;
+    compare(&rt, alloc, &mut tree, &CLOSED)
+}
+
+#[test]
+fn a_full_cluster_takes_no_name_more(rt: HostRuntime) -> Result<(), Fail> {
+    let alloc = rt.alloc();
+    let geometry = Geometry {
+        nodes: 1,
+        memories: 1,
+        blocks: 2,
+        inodes: 32,
+    };
+    let mut tree = Tree::fresh(alloc, geometry)?;
+    let cred = caller(alloc, 7, 9)?;
+    for index in 0..SLOTS_PER_BLOCK {
+        let what = Create((1, &LETTERS[index..index + 1]));
+        status_of(alloc, &mut tree, what, &cred)?;
+    }
+    compare(&rt, alloc, &mut tree, &FULL)
 }
 
 #[test]

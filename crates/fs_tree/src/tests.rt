@@ -99,7 +99,7 @@ pub(crate) fn pick_for(tree: &Tree) -> Option<u32>
 }
 
 // SETATTR of the root.
-fn set_root(tree: &mut Tree, set: Sattr, cred: &Cred) -> Result<Response, NoMemory> {
+pub(crate) fn set_root(tree: &mut Tree, set: Sattr, cred: &Cred) -> Result<Response, NoMemory> {
     let call = Call::SetAttr {
         file: handle_of(ROOT, 1),
         set,
