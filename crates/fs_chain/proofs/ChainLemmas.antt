@@ -1,6 +1,6 @@
 -- Chaining blocks and the bytes that spell them.
 use Rattle.std.proofs.Common.{◌≡◌, ℕ, List, [], ◌∷◌, ◌++◌, length, get_or, take, drop, Option, Some, None, refl, sym, ap, subst, ◌∙◌, arith}
-use Rattle.std.proofs.lemmas.List.{take-append-drop, take_at, drop_at, length-append}
+use Rattle.std.proofs.lemmas.List.{take_at, drop_at, length-append}
 use Rattle.fs_layout.specs.declared.reference.Reference.{Reference}
 use Rattle.fs_layout.specs.Words.{AreWords, spelled}
 use Rattle.fs_layout.specs.References.{reference_words}
@@ -8,7 +8,8 @@ use Rattle.fs_layout.proofs.WordLemmas.{spelled-append, length-spelled, words_on
 use Rattle.fs_layout.proofs.RecordLemmas.{length-reference, reference_front}
 use Rattle.fs_chain.specs.declared.chain_block.ChainBlock.{ChainBlock}
 use Rattle.fs_chain.specs.declared.chain_block.Header.{Header}
-use Rattle.fs_chain.specs.Chains.{header_words, references_words, SpellsChain}
+use Rattle.fs_chain.specs.Chains.{header_words, SpellsChain}
+use Rattle.fs_chain.specs.ReferenceLists.{references_words, SpellReferences}
 use Rattle.fs_chain.specs.Laws.{ChainsHaveOneValue}
 use Rattle.fs_chain.proofs.ReferencesLemmas.{AreWords-before, AreWords-behind, AreWords-append, length-references, references_one}
 
@@ -73,8 +74,7 @@ pub record ChainParts (c : ChainBlock) (bytes : List ℕ) : Type 0 where
   pub sized : length bytes ≡ 4096
   pub front : take 16 bytes ≡ spelled (header_words c.next c.file c.index)
   pub front_words : AreWords (header_words c.next c.file c.index)
-  pub back : drop 16 bytes ≡ spelled (references_words c.references)
-  pub back_words : AreWords (references_words c.references)
+  pub back : SpellReferences c.references (drop 16 bytes)
 
 pub chain_parts : (c : ChainBlock) (bytes : List ℕ) → SpellsChain c bytes → ChainParts c bytes
 chain_parts c bytes h =
@@ -85,8 +85,11 @@ chain_parts c bytes h =
       sized = omega (arith, ap (length {A = ℕ}) parts, length-append (spelled front) (spelled back), length-header c.next c.file c.index, length-spelled back, length-references c.references, h.sized);
       front = ap (take 16) parts ∙ take_at (spelled front) (spelled back) 16 (length-header c.next c.file c.index);
       front_words = AreWords-before front back h.words;
-      back = ap (drop 16) parts ∙ drop_at (spelled front) (spelled back) 16 (length-header c.next c.file c.index);
-      back_words = AreWords-behind front back h.words;
+      back = record {
+        sized = h.sized;
+        words = AreWords-behind front back h.words;
+        bytes_are = ap (drop 16) parts ∙ drop_at (spelled front) (spelled back) 16 (length-header c.next c.file c.index);
+      };
     }
 
 -- a chaining block by its fields
@@ -97,19 +100,17 @@ pub chain_by_fields : (c : ChainBlock) → chain_by c.next c.file c.index c.refe
 unfolding chain_by
 chain_by_fields c = refl
 
--- what was read is spelled so
-pub chain_found : (bytes : List ℕ) (next : Option Reference) (file index : ℕ) (references : List (Option Reference)) → length references ≡ 510
-    → AreWords (header_words next file index) → AreWords (references_words references) → take 16 bytes ≡ spelled (header_words next file index)
-    → drop 16 bytes ≡ spelled (references_words references) → SpellsChain (chain_by next file index references) bytes
+-- a header and references behind it are a chaining block
+pub chain_found : (front back : List ℕ) (next : Option Reference) (file index : ℕ) (references : List (Option Reference)) → AreWords (header_words next file index)
+    → front ≡ spelled (header_words next file index) → SpellReferences references back → SpellsChain (chain_by next file index references) (front ++ back)
 unfolding chain_by
-chain_found bytes next file index references sized front_words back_words front back =
+chain_found front back next file index references fits are rest =
     let head = header_words next file index in
     let tail = references_words references in
     record {
-      sized = sized;
-      words = AreWords-append head tail front_words back_words;
-      bytes_are =
-          sym (take-append-drop 16 bytes) ∙ ap (λ (f : List ℕ). f ++ drop 16 bytes) front ∙ ap (λ (b : List ℕ). spelled head ++ b) back ∙ sym (spelled-append head tail);
+      sized = rest.sized;
+      words = AreWords-append head tail fits rest.words;
+      bytes_are = ap (λ (f : List ℕ). f ++ back) are ∙ ap (λ (b : List ℕ). spelled head ++ b) rest.bytes_are ∙ sym (spelled-append head tail);
     }
 
 -- a chaining block with the only header and the only references is the only one
@@ -129,6 +130,6 @@ chain_one c d bytes first second =
     let file = one.file_is in
     let index = one.index_is in
     let references : c.references ≡ d.references =
-    references_one c.references d.references (words_one (references_words c.references) (references_words d.references) p.back_words q.back_words (sym p.back ∙ q.back)) in
+    references_one c.references d.references (words_one (references_words c.references) (references_words d.references) p.back.words q.back.words (sym p.back.bytes_are ∙ q.back.bytes_are)) in
     let same : chain_by c.next c.file c.index c.references ≡ chain_by d.next d.file d.index d.references = cc in
     sym (chain_by_fields c) ∙ same ∙ chain_by_fields d

@@ -1,2 +1,3 @@
 pub mod ReferencesLemmas
+pub mod BytesLemmas
 pub mod ChainLemmas

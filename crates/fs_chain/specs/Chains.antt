@@ -1,14 +1,10 @@
 -- Chaining blocks.
-use Rattle.std.specs.Prelude.{◌≡◌, ℕ, ◌++◌, List, [], ◌∷◌, length, Option, All}
-use Rattle.std.specs.List.{flat_map}
+use Rattle.std.specs.Prelude.{◌≡◌, ℕ, ◌++◌, List, [], ◌∷◌, length, Option}
 use Rattle.fs_layout.specs.declared.reference.Reference.{Reference}
 use Rattle.fs_layout.specs.Words.{AreWords, spelled}
 use Rattle.fs_layout.specs.References.{IsReference, reference_words}
 use Rattle.fs_chain.specs.declared.chain_block.ChainBlock.{ChainBlock}
-
--- the words of references, one behind the other
-unfoldable pub references_words : List (Option Reference) → List ℕ
-references_words references = flat_map reference_words references
+use Rattle.fs_chain.specs.ReferenceLists.{references_words}
 
 -- the words with which a chaining block begins: the next one, the file's number, and its index in the list
 abbrev pub header_words : Option Reference → ℕ → ℕ → List ℕ
@@ -18,14 +14,9 @@ header_words next file index = reference_words next ++ (file ∷ index ∷ [])
 abbrev pub chain_words : ChainBlock → List ℕ
 chain_words c = header_words c.next c.file c.index ++ references_words c.references
 
--- references that have words
-abbrev pub AreReferences : List (Option Reference) → Type 0
-AreReferences references = All IsReference references
-
--- a chaining block whose references have words
-pub record IsChain (c : ChainBlock) : Type 0 where
-  pub next : IsReference c.next
-  pub references : AreReferences c.references
+-- a chaining block that can be written: the references that it keeps always can
+abbrev pub IsChain : ChainBlock → Type 0
+IsChain c = IsReference c.next
 
 -- the bytes are this chaining block
 pub record SpellsChain (c : ChainBlock) (bytes : List ℕ) : Type 0 where

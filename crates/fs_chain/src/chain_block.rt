@@ -5,11 +5,8 @@ ghost use Rattle.fs_chain.specs.Chains.{IsChain, SpellsChain, header_words};
 ghost use Rattle.fs_layout.specs.References.{IsReference};
 ghost use Rattle.fs_layout.specs.Words.{AreWords, spelled};
 
-use crate::references::{read_references, write_references};
+use crate::references::References;
 use fs_layout::{BLOCK_BYTES, Reference, WORD_BYTES, read_words, write_words};
-
-/// The references of a chaining block.
-pub const REFERENCES_PER_CHAIN: usize = 510;
 
 /// The words before the references.
 const HEADER_WORDS: usize = 4;
@@ -27,19 +24,16 @@ pub struct ChainBlock {
     /// Its index in the list, from 0.
     pub index: u32,
     /// The blocks of the file, in order; none where a block is not stored.
-    pub references: [Option<Reference>; REFERENCES_PER_CHAIN],
+    pub references: References,
 }
 
 impl ChainBlock {
-    /// Whether it can be written: the number of each block to which it refers is below 2^32 - 1.
+    /// Whether it can be written: the number of the block of the next one is below 2^32 - 1. Its references
+    /// always can.
     pub fn is_chain(&self) -> bool
         ensures { IsTrue result ↔ IsChain self.now }
     {
         Reference::has_words(self.next)
-            && self
-                .references
-                .iter()
-                .all(|reference| Reference::has_words(*reference))
     }
 }
 
@@ -58,7 +52,7 @@ pub fn read_chain(bytes: &[u8]) -> Option<ChainBlock>
         next,
         file,
         index,
-        references: read_references(rest)?,
+        references: References::read(rest)?,
     })
 }
 
@@ -71,7 +65,7 @@ pub fn write_chain(c: &ChainBlock, into: &mut [u8])
 {
     let (header, rest) = into.split_at_mut(HEADER_BYTES);
     write_words(&header_of(c.next, c.file, c.index), header);
-    write_references(&c.references, rest);
+    c.references.write(rest);
 }
 
 // What stands before the references.

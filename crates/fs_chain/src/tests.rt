@@ -1,17 +1,23 @@
 use super::*;
 use std::test::*;
 
+const FIRST_BLOCK: Option<Reference> = Some(Reference {
+    memory: 0,
+    block: 0,
+});
+
+const LAST_BLOCK: Option<Reference> = Some(Reference {
+    memory: 7,
+    block: u32::MAX - 1,
+});
+
+const LAST: usize = REFERENCES_PER_CHAIN - 1;
+
 // A block whose references are the first and the last block that there can be.
 fn sample() -> ChainBlock {
-    let mut references = [None; REFERENCES_PER_CHAIN];
-    references[0] = Some(Reference {
-        memory: 0,
-        block: 0,
-    });
-    references[REFERENCES_PER_CHAIN - 1] = Some(Reference {
-        memory: 7,
-        block: u32::MAX - 1,
-    });
+    let mut references = References::new();
+    references.set(0, FIRST_BLOCK);
+    references.set(LAST, LAST_BLOCK);
     ChainBlock {
         next: Some(Reference {
             memory: 1,
@@ -44,16 +50,32 @@ fn a_block_is_its_header_and_its_references(rt: HostRuntime) {
 }
 
 #[test]
-fn a_block_without_a_word_cannot_be_written(rt: HostRuntime) {
-    let far = Some(Reference {
+fn references_are_read_one_by_one(rt: HostRuntime) {
+    let references = sample().references;
+    assert_eq!(rt; references.get(0), FIRST_BLOCK);
+    assert_eq!(rt; references.get(1), None);
+    assert_eq!(rt; references.get(LAST), LAST_BLOCK);
+    let mut changed = references.clone().expect(&rt, "memory");
+    assert_eq!(rt; changed, references);
+    changed.set(LAST, None);
+    assert_eq!(rt; changed.get(LAST), None);
+    assert!(rt; changed != references);
+}
+
+#[test]
+fn references_are_shown_as_a_list(rt: HostRuntime) {
+    let shown = format!(in rt.alloc(); "{:?}", sample().references).expect(&rt, "memory");
+    let front = "[Some(Reference { memory: 0, block: 0 }), None, None";
+    assert!(rt; shown.as_str().starts_with(front));
+}
+
+#[test]
+fn a_block_whose_next_has_no_word_cannot_be_written(rt: HostRuntime) {
+    let mut block = sample();
+    block.next = Some(Reference {
         memory: 0,
         block: u32::MAX,
     });
-    let mut block = sample();
-    block.references[7] = far;
-    assert!(rt; !block.is_chain());
-    let mut block = sample();
-    block.next = far;
     assert!(rt; !block.is_chain());
 }
 
@@ -63,7 +85,7 @@ fn a_block_of_zeros_refers_to_nothing(rt: HostRuntime) {
         next: None,
         file: 0,
         index: 0,
-        references: [None; REFERENCES_PER_CHAIN],
+        references: References::new(),
     };
     assert_eq!(rt; read_chain(&[0; BLOCK_BYTES]), Some(nothing));
 }
@@ -77,7 +99,7 @@ fn a_block_has_4096_bytes(rt: HostRuntime) {
 
 #[test]
 fn a_memory_node_without_a_block_is_refused(rt: HostRuntime) {
-    for at in [3, 19, 2_051, 4_091] {
+    for at in [3, 16, 19, 2_051, 4_088, 4_091] {
         let mut bytes = [0; BLOCK_BYTES];
         bytes[at] = 1;
         assert_eq!(rt; read_chain(&bytes), None, "at {at}");

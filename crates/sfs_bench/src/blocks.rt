@@ -2,7 +2,7 @@
 //! calls look at. Each round changes a byte, so that no round can stand for another.
 
 use fs_bitmap::{count_free, lowest_free};
-use fs_chain::{BLOCK_BYTES, ChainBlock, read_chain, write_chain};
+use fs_chain::{BLOCK_BYTES, ChainBlock, REFERENCES_PER_CHAIN, Reference, read_chain, write_chain};
 use std::io;
 use std::rt::Clock;
 use std::time::Instant;
@@ -95,10 +95,7 @@ fn time_read_chain<R: Print + Clock>(rt: &R) -> io::Result<()> {
     let mut sum = 0u64;
     let start = Instant::now(rt)?;
     for round in 0..ROUNDS {
-        if let Some(chain) = read(&block) {
-            let stored = chain.references[(round % 510) as usize].is_some();
-            sum = sum.wrapping_add(u64::from(chain.file) + u64::from(stored));
-        }
+        sum = sum.wrapping_add(read(&block, round));
         change(&mut block, round);
     }
     report(rt, "read_chain", start, sum)
@@ -107,7 +104,7 @@ fn time_read_chain<R: Print + Clock>(rt: &R) -> io::Result<()> {
 fn time_write_chain<R: Print + Clock>(rt: &R) -> io::Result<()> {
     let mut block = used_chain();
     let mut sum = 0u64;
-    let mut chain = read(&block);
+    let mut chain = read_chain(&block);
     let start = Instant::now(rt)?;
     for round in 0..ROUNDS {
         if let Some(chain) = &mut chain {
@@ -159,9 +156,22 @@ fn copy_block(from: &[u8; BLOCK_BYTES], into: &mut [u8; BLOCK_BYTES]) {
     into.copy_from_slice(from);
 }
 
+// The whole block is read, and lies where it is looked at.
 #[inline(never)]
-fn read(block: &[u8; BLOCK_BYTES]) -> Option<ChainBlock> {
-    read_chain(block)
+fn read(block: &[u8; BLOCK_BYTES], round: u32) -> u64 {
+    match read_chain(block) {
+        Some(chain) => looked_at(&chain, round),
+        None => 0,
+    }
+}
+
+#[inline(never)]
+fn looked_at(chain: &ChainBlock, round: u32) -> u64 {
+    let index = round as usize % REFERENCES_PER_CHAIN;
+    match chain.references.get(index) {
+        Some(Reference { memory, .. }) => u64::from(memory),
+        None => u64::from(chain.file),
+    }
 }
 
 // With the test that it can be written.
