@@ -325,3 +325,18 @@ fn a_load_of_a_stopped_disk_leaves_the_entries(rt: HostRuntime) -> Result<(), Fa
     }
     Ok(())
 }
+
+#[test]
+fn faults_are_printed_in_words(rt: HostRuntime) -> Result<(), Fail> {
+    let table = [
+        (NodeFault::Down, "the disk failed"),
+        (NodeFault::Full, "the log is full"),
+        (NodeFault::Other, "the disk is none of this memory node"),
+        (NodeFault::Damaged { at: 6 }, "the log is damaged at 6"),
+        (NodeFault::NoMemory, "no memory"),
+    ];
+    for (fault, words) in table {
+        assert_eq!(rt; format!(in rt.alloc(); "{fault}")?.as_str(), words);
+    }
+    Ok(())
+}
