@@ -6,3 +6,4 @@ pub mod VoteLemmas
 pub mod ImageLemmas
 pub mod AlikeLemmas
 pub mod StateLemmas
+pub mod DecideLemmas

@@ -98,7 +98,7 @@ same_self : (a : TxId) → is_same a a ≡ true
 same_self a =
     and_from (a.coord == a.coord) _ (eq-eqb a.coord a.coord refl) (and_from (a.boot == a.boot) _ (eq-eqb a.boot a.boot refl) (eq-eqb a.seq a.seq refl))
 
-found_in : (k : Kept) (kept : List Kept) → In k kept → is_some (kept_of kept k.id) ≡ true
+pub found_in : (k : Kept) (kept : List Kept) → In k kept → is_some (kept_of kept k.id) ≡ true
 found_in k [] h = absurd h
 found_in k (y ∷ kept) h = elim h [
   | inl e ↦ ap (λ b. is_some (cond b (Some y) (kept_of kept k.id))) (ap (λ (z : Kept). is_same z.id k.id) (sym e) ∙ same_self k.id)

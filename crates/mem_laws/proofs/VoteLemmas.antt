@@ -161,11 +161,11 @@ module _ (s : Setting) (m : ℕ) (n : node.Node) (v : machine.View) (id : TxId) 
   -- ---- each rule
 
   by_rule_is : (r : Rule) → IsKnown r → (x : rules.Rule) → IsShownRule items r x → IsShownReaction s m id (node.by_rule n id participants items r) (rules.by_rule s m v t x)
-  by_rule_is (RecordAgain y) known x is =
+  by_rule_is (RecordAgain y) told x is =
       subst (λ (z : rules.Rule). IsShownReaction s m id (node.answers n (Voted id y)) (rules.by_rule s m v t z)) (sym is)
-      record { vote = y; voted = refl; appends = refl; posts = ap (λ (p : Message). p ∷ []) (sym (granted_again y known.0 known.1)) }
-  by_rule_is (FloorAgain y) known x is =
-      subst (λ (z : rules.Rule). IsShownReaction s m id (node.answers n (Voted id y)) (rules.by_rule s m v t z)) (sym is) (again y known)
+      record { vote = y; voted = refl; appends = refl; posts = ap (λ (p : Message). p ∷ []) (sym (granted_again y told.0 told.1)) }
+  by_rule_is (FloorAgain y) told x is =
+      subst (λ (z : rules.Rule). IsShownReaction s m id (node.answers n (Voted id y)) (rules.by_rule s m v t z)) (sym is) (again y told)
     where
       again : (y : Vote) → IsShownVote s m v id y → IsShownReaction s m id (node.answers n (Voted id y)) (rules.by_rule s m v t (rules.FloorAgain (is_granted y)))
       again (vote.Granted reads) shown =
@@ -174,16 +174,16 @@ module _ (s : Setting) (m : ℕ) (n : node.Node) (v : machine.View) (id : TxId) 
       again (vote.Locked holder) shown = record { vote = vote.Locked holder; voted = refl; appends = refl; posts = refl }
       again (vote.Forced floor) shown = record { vote = vote.Forced floor; voted = refl; appends = refl; posts = refl }
       again (vote.Held cut) shown = record { vote = vote.Held cut; voted = refl; appends = refl; posts = refl }
-  by_rule_is (ForcedBy floor) known x is =
+  by_rule_is (ForcedBy floor) told x is =
       subst (λ (z : rules.Rule). IsShownReaction s m id (node.answers n (Voted id (vote.Forced floor))) (rules.by_rule s m v t z)) (sym is)
       record { vote = vote.Forced floor; voted = refl; appends = refl; posts = refl }
-  by_rule_is (HeldBy cut) known x is =
+  by_rule_is (HeldBy cut) told x is =
       subst (λ (z : rules.Rule). IsShownReaction s m id (node.by_rule n id participants items (HeldBy cut)) (rules.by_rule s m v t z)) (sym is) (refuses_is (vote.Held cut) (refl, refl))
-  by_rule_is (LockedBy holder) known x is =
+  by_rule_is (LockedBy holder) told x is =
       subst (λ (z : rules.Rule). IsShownReaction s m id (node.by_rule n id participants items (LockedBy holder)) (rules.by_rule s m v t z)) (sym is) (refuses_is (vote.Locked holder) (refl, refl))
-  by_rule_is (MismatchAt d) known x is =
+  by_rule_is (MismatchAt d) told x is =
       subst (λ (z : rules.Rule). IsShownReaction s m id (node.by_rule n id participants items (MismatchAt d)) (rules.by_rule s m v t z)) (sym is.1) (refuses_is (vote.Mismatch d.place d.kept) (refl, refl))
-  by_rule_is Passes known x is =
+  by_rule_is Passes told x is =
       subst (λ (z : rules.Rule). IsShownReaction s m id (node.by_rule n id participants items Passes) (rules.by_rule s m v t z)) (sym is) grants_is
 
   pub vote_is : IsShownReaction s m id (node.on_prepare n id participants items) (machine.on_prepare s m (is_some (node.held_cut n.copy)) v t)

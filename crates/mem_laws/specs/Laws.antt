@@ -1,18 +1,19 @@
 -- That a memory node votes as the machine of the transaction protocol does.
-use Rattle.std.specs.Prelude.{◌≡◌, ℕ, ◌<◌, List, [], length, get_or, is_some}
+use Rattle.std.specs.Prelude.{◌≡◌, ℕ, ◌<◌, Bool, List, [], ◌∷◌, length, get_or, Some, None, is_some, if◌then◌else◌}
+use Rattle.mini_tx.specs.declared.message.Message.TheVariants as sent
 use Rattle.mini_tx.specs.declared.placed_item.PlacedItem.{PlacedItem}
 use Rattle.mini_tx.specs.declared.tx_id.TxId.{TxId}
 use Rattle.mini_tx.specs.Laws.{IsTypedId}
 use Rattle.mem_node.specs.Fit.{AreInside}
 use Rattle.mem_node.specs.Rules as node
-use Rattle.mem_node.specs.State.{State, opened, after_one}
+use Rattle.mem_node.specs.State.{State, opened, after_one, kept_of}
 use Rattle.tx_rules.specs.Mini.{Setting}
-use Rattle.tx_rules.specs.World.{World, Event, Begins, Grants, Completes, Refuses, Commits, Aborts, Forgets, Posts, after, after_all}
+use Rattle.tx_rules.specs.World.{World, Event, Begins, Grants, Completes, Refuses, Commits, Aborts, Forgets, Posts, Done, AnswerOk, AnswerAbort, after, after_all}
 use Rattle.tx_actors.specs.Machine.{appending}
 use Rattle.tx_actors.specs.Node as machine
 use Rattle.tx_actors.specs.Rules as rules
 use Rattle.mem_laws.specs.Cells.{number}
-use Rattle.mem_laws.specs.Shown.{IsTold, Shows, IsShownRule, IsShownReaction}
+use Rattle.mem_laws.specs.Shown.{IsTold, Shows, IsShownRule, IsShownReaction, IsSameReaction}
 
 -- a memory node shows in the machine, and so does what a prepare asks of it
 pub record IsAsked (s : Setting) (m : ℕ) (n : node.Node) (v : machine.View) (id : TxId) (participants : List ℕ) (items : List PlacedItem) : Type 0 where
@@ -40,6 +41,29 @@ StatesAreTheMachines = (s : Setting) (m : ℕ) (n : node.Node) (w : World) (id :
     → IsAsked s m n (machine.view w m) id participants items
     → Shows s m (after_one n.state (node.on_prepare n id participants items).entry)
     (machine.view (after_all s w (appending s w m (machine.on_prepare s m (is_some (node.held_cut n.copy)) (machine.view w m) (number id)).appends)) m)
+
+-- a memory node shows in the machine, and a message names this identifier
+pub record IsNamed (s : Setting) (m : ℕ) (state : State) (v : machine.View) (id : TxId) : Type 0 where
+  pub typed : IsTypedId id
+  pub coordinator : s.coord (number id) ≡ id.coord
+  pub shows : Shows s m state v
+
+-- what it does where an identifier is decided is what the machine does
+abbrev pub DecisionsAreTheMachines : Type 0
+DecisionsAreTheMachines = (s : Setting) (m : ℕ) (n : node.Node) (v : machine.View) (id : TxId) (commit : Bool) → IsNamed s m n.state v id
+    → IsSameReaction (node.on_decide n id commit (kept_of n.state.kept id)) (if commit then machine.on_commit m v (number id) else machine.on_abort s m v (number id))
+    (Some (sent.Done id)) (Done m (number id) ∷ [])
+
+-- where it is forgotten
+abbrev pub ForgettingIsTheMachines : Type 0
+ForgettingIsTheMachines = (s : Setting) (m : ℕ) (n : node.Node) (v : machine.View) (id : TxId) → IsNamed s m n.state v id
+    → IsSameReaction (node.on_forget n id (kept_of n.state.kept id)) (machine.on_forget s v (number id)) None []
+
+-- and where it is asked about
+abbrev pub AnswersAreTheMachines : Type 0
+AnswersAreTheMachines = (s : Setting) (m : ℕ) (n : node.Node) (v : machine.View) (id : TxId) → IsNamed s m n.state v id
+    → (ok : Bool) × IsSameReaction (node.on_ask n id (kept_of n.state.kept id)) (machine.on_ask s m v (number id))
+    (Some (sent.Answer id ok)) ((if ok then AnswerOk m (number id) else AnswerAbort m (number id)) ∷ [])
 
 -- a memory node appends a record in this event
 abbrev pub IsAt : ℕ → Event → Type 0

@@ -2,6 +2,7 @@
 use Rattle.std.specs.Prelude.{◌≡◌, ◌≤◌, ◌+◌, ℕ, Bool, ◌||◌, true, List, [], ◌∷◌, length, map, Option, Some, None, is_some, if◌then◌else◌}
 use Rattle.mini_tx.specs.declared.entry.Entry.{Entry}
 use Rattle.mini_tx.specs.declared.entry.Entry.TheVariants as entry
+use Rattle.mini_tx.specs.declared.message.Message as sent
 use Rattle.mini_tx.specs.declared.message.Message.TheVariants.{Voted}
 use Rattle.mini_tx.specs.declared.placed_item.PlacedItem.{PlacedItem}
 use Rattle.mini_tx.specs.declared.tx_id.TxId.{TxId}
@@ -113,3 +114,9 @@ pub record IsShownReaction (s : Setting) (m : ℕ) (id : TxId) (r : node.Reactio
   pub voted : r.answer ≡ Some (Voted id vote)
   pub appends : x.appends ≡ records_of r.entry
   pub posts : x.posts ≡ posted m (number id) (is_logged (s.mini (number id))) vote ∷ []
+
+-- the machine appends the records of the same entry, and posts this message where this one is sent
+pub record IsSameReaction (r : node.Reaction) (x : machine.Reaction) (answer : Option sent.Message) (posts : List Message) : Type 0 where
+  pub answered : r.answer ≡ answer
+  pub appended : x.appends ≡ records_of r.entry
+  pub posted : x.posts ≡ posts

@@ -1,5 +1,5 @@
 //! Laws of a memory node's rules and of the machine's.
-ghost use Rattle.mem_laws.specs.Laws.{RulesAreTheMachines, VotesAreTheMachines, StatesAreTheMachines, OthersLeaveIt, OpenedNodesShow};
+ghost use Rattle.mem_laws.specs.Laws.{RulesAreTheMachines, VotesAreTheMachines, StatesAreTheMachines, DecisionsAreTheMachines, ForgettingIsTheMachines, AnswersAreTheMachines, OthersLeaveIt, OpenedNodesShow};
 
 /// A memory node finds the rule that the machine finds.
 pub fn rules_are_the_machines()
@@ -14,6 +14,21 @@ pub fn votes_are_the_machines()
 /// After a vote a memory node shows in the machine again.
 pub fn states_are_the_machines()
     ensures { StatesAreTheMachines }
+{}
+
+/// A memory node does with `decide` what the machine does.
+pub fn decisions_are_the_machines()
+    ensures { DecisionsAreTheMachines }
+{}
+
+/// And with `forget`.
+pub fn forgetting_is_the_machines()
+    ensures { ForgettingIsTheMachines }
+{}
+
+/// And with `ask`.
+pub fn answers_are_the_machines()
+    ensures { AnswersAreTheMachines }
 {}
 
 /// What happens elsewhere in the machine changes nothing of it.

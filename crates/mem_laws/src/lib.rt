@@ -8,6 +8,7 @@
 mod laws;
 
 pub use laws::{
+    answers_are_the_machines, decisions_are_the_machines, forgetting_is_the_machines,
     opened_nodes_show, others_leave_it, rules_are_the_machines, states_are_the_machines,
     votes_are_the_machines,
 };
