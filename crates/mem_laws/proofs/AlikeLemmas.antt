@@ -43,7 +43,9 @@ module _ (s : Setting) (m : ℕ) where
               vote = vote_alike v (record { records = v.records; image = u.image; seen = u.seen }) k.id k.vote (alike.seen (number k.id)) shown.vote;
               undecided = shown.undecided;
               locked = shown.locked;
+              written = shown.written;
             };
+        within = shows.within;
         undecided = shows.undecided;
         granted = shows.granted;
         image = λ at n fits. shows.image at n fits ∙ map_alike v.image u.image (cells_from at n) (λ a h. alike.image a);

@@ -23,7 +23,7 @@ use Rattle.mem_laws.specs.Shown.{shown_floor, IsSameReaction}
 use Rattle.mem_laws.specs.Laws.{IsNamed, DecisionsAreTheMachines, ForgettingIsTheMachines, AnswersAreTheMachines}
 use Rattle.mem_laws.proofs.CellLemmas.{order_is, sameness_is, number_same}
 use Rattle.mem_laws.proofs.RuleLemmas.{find-In}
-use Rattle.mem_laws.proofs.StateLemmas.{found_in}
+use Rattle.mem_laws.proofs.FloorLemmas.{found_in}
 
 -- an identifier stands to its floor as its number does
 abbrev IsShownStanding : Standing → machine.Standing → Type 0
@@ -72,12 +72,12 @@ module _ (s : Setting) (m : ℕ) (n : node.Node) (v : machine.View) (id : TxId) 
   -- ---- the record
 
   -- what is known of the kept record
-  record IsFound (k : Kept) : Type 0 where
+  pub record IsFound (k : Kept) : Type 0 where
     pub kept : machine.is_kept s v.records t ≡ true
     pub granted : machine.has_grant v.records t ≡ true
     pub undecided : machine.is_undecided v.records t ≡ node.is_undecided k
 
-  found : (k : Kept) → kept_of n.state.kept id ≡ Some k → IsFound k
+  pub found : (k : Kept) → kept_of n.state.kept id ≡ Some k → IsFound k
   found k is =
       let there = find-In (λ (x : Kept). is_same x.id id) k n.state.kept is in
       let kept : machine.is_kept s v.records t ≡ true = named.shows.kept id named.typed ∙ ap (λ (o : Option Kept). is_some o) is in

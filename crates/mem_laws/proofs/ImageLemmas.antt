@@ -87,7 +87,7 @@ abbrev pub AreWritesWithin : ℕ → List WriteAt → Type 0
 AreWritesWithin size writes = AllByRecursion (IsWriteInside size) writes
 
 -- writes of a size are those of an equal one
-same_size : (writes : List WriteAt) (a b : ℕ) → a ≡ b → AreWritesWithin a writes → AreWritesWithin b writes
+pub same_size : (writes : List WriteAt) (a b : ℕ) → a ≡ b → AreWritesWithin a writes → AreWritesWithin b writes
 same_size writes a b e = subst (λ size. AreWritesWithin size writes) e
 
 pub length_written : (writes : List WriteAt) (image : List ℕ) → AreWritesWithin (length image) writes → length (written image writes) ≡ length image

@@ -5,5 +5,7 @@ pub mod RuleLemmas
 pub mod VoteLemmas
 pub mod ImageLemmas
 pub mod AlikeLemmas
+pub mod FloorLemmas
 pub mod StateLemmas
 pub mod DecideLemmas
+pub mod LeaveLemmas

@@ -35,7 +35,7 @@ use Rattle.mem_laws.proofs.WantLemmas.{AreWithin, IsSameMismatch, mismatch_is}
 -- ---- elements
 
 module _ {A : Type 0} where
-  filter-In : (test : A → Bool) (x : A) (xs : List A) → In x xs → test x ≡ true → In x (filter test xs)
+  pub filter-In : (test : A → Bool) (x : A) (xs : List A) → In x xs → test x ≡ true → In x (filter test xs)
   filter-In test x [] h is = absurd h
   filter-In test x (y ∷ xs) h is = go (test y) refl (λ rest. filter-In test x xs rest is) h
     where
@@ -43,7 +43,7 @@ module _ {A : Type 0} where
       go true same rest k = elim k [ inl e ↦ inl e | inr later ↦ inr (rest later) ]
       go false same rest k = elim k [ inl e ↦ (let two : true ≡ false = sym is ∙ ap test e ∙ same in absurd cc) | inr later ↦ rest later ]
 
-  map-In : {B : Type 0} (f : A → B) (x : A) (xs : List A) → In x xs → In (f x) (map f xs)
+  pub map-In : {B : Type 0} (f : A → B) (x : A) (xs : List A) → In x xs → In (f x) (map f xs)
   map-In f x [] h = absurd h
   map-In f x (y ∷ xs) h = elim h [ inl e ↦ inl (ap f e) | inr rest ↦ inr (map-In f x xs rest) ]
 

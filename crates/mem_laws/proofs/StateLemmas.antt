@@ -1,7 +1,7 @@
 -- After a vote a memory node shows in the machine again.
 use Rattle.std.proofs.Common.{◌≡◌, ℕ, nat_lt, ◌==◌, Bool, true, false, not, cond, ◌&&◌, ◌||◌, List, [], ◌∷◌, ◌≤◌, ◌++◌, map, replicate, length, Option, Some, None, is_some, unwrap_or, inl, inr, refl, sym, ap, subst, ◌∙◌, arith}
-use Rattle.std.proofs.lemmas.Bool.{cases_eq, cases_lt, eq-eqb, ne_eqb, eqb-true, ltb-true, and_from, or_parts, not_from_false, false_from_ne_true}
-use Rattle.std.proofs.lemmas.List.{get_or-set_same, get_or-set_other, get_or-replicate, get_or_past, length-replicate}
+use Rattle.std.proofs.lemmas.Bool.{cases_lt, eq-eqb, ne_eqb, eqb-true, ltb-true, and_from, or_parts, not_from_false, false_from_ne_true}
+use Rattle.std.proofs.lemmas.List.{get_or-replicate, get_or_past, length-replicate}
 use Rattle.mini_tx.specs.declared.entry.Entry.{Entry}
 use Rattle.mini_tx.specs.declared.entry.Entry.TheVariants as entry
 use Rattle.mini_tx.specs.declared.message.Message.TheVariants.{Voted}
@@ -10,7 +10,6 @@ use Rattle.mini_tx.specs.declared.tx_id.TxId.{TxId}
 use Rattle.mini_tx.specs.declared.vote.Vote.{Vote}
 use Rattle.mini_tx.specs.declared.vote.Vote.TheVariants as vote
 use Rattle.mini_tx.specs.EntryGrammar.{is_granted}
-use Rattle.mini_tx.specs.Laws.{IsTypedId}
 use Rattle.mem_node.specs.declared.floor.Floor.{Floor}
 use Rattle.mem_node.specs.declared.kept.Kept.{Kept}
 use Rattle.mem_node.specs.declared.rule.Rule.{Rule}
@@ -18,11 +17,11 @@ use Rattle.mem_node.specs.declared.rule.Rule.TheVariants.{RecordAgain, FloorAgai
 use Rattle.mem_node.specs.declared.standing.Standing.{Standing}
 use Rattle.mem_node.specs.declared.standing.Standing.TheVariants.{Above, At, Below}
 use Rattle.mem_node.specs.Identifiers.{precedes, is_same}
-use Rattle.mem_node.specs.Items.{reads_of, writes_of, range_of}
+use Rattle.mem_node.specs.Items.{written, reads_of, writes_of, range_of}
 use Rattle.mem_node.specs.Rules as node
-use Rattle.mem_node.specs.State.{floor_at, raised, raise, kept_of, after_one}
+use Rattle.mem_node.specs.State.{floor_at, kept_of, after_one}
 use Rattle.tx_rules.specs.Mini.{In, Setting, has_several, is_logged, nodes_of}
-use Rattle.tx_rules.specs.Decision.{Grant, Refuse, Commit}
+use Rattle.tx_rules.specs.Decision.{Grant, Commit}
 use Rattle.tx_rules.specs.World.{after_all}
 use Rattle.tx_actors.specs.Machine.{appending}
 use Rattle.tx_actors.specs.Node as machine
@@ -31,10 +30,11 @@ use Rattle.tx_actors.proofs.RecordLemmas.{has_grant-In}
 use Rattle.tx_actors.proofs.TestLemmas.{not_two}
 use Rattle.tx_rules.proofs.FaithfulLemmas.{in_front, in_back, in_either}
 use Rattle.mem_laws.specs.Cells.{number, cells_from, joined, written_in}
-use Rattle.mem_laws.specs.Shown.{shown_floor, IsShownVote, IsShownRecord, Shows, records_of}
-use Rattle.mem_laws.specs.Laws.{IsAsked, OpenedNodesShow, StatesAreTheMachines}
+use Rattle.mem_laws.specs.Shown.{shown_floor, IsShownRecord, Shows, records_of}
+use Rattle.mem_laws.specs.Laws.{IsNamed, IsAsked, OpenedNodesShow, StatesAreTheMachines}
 use Rattle.mem_laws.proofs.CellLemmas.{order_is, sameness_is}
-use Rattle.mem_laws.proofs.ImageLemmas.{bytes_of_cells, image_after, map_alike, writes_within}
+use Rattle.mem_laws.proofs.FloorLemmas.{found_in, floor_moves, votes_after, other_number, refused_state}
+use Rattle.mem_laws.proofs.ImageLemmas.{AreWritesWithin, same_size, length_written, bytes_of_cells, image_after, map_alike, writes_within}
 use Rattle.mem_laws.proofs.AlikeLemmas.{after_record, after_records, vote_alike, shows_alike, alike_after_all, alike_self}
 use Rattle.mem_laws.proofs.RuleLemmas.{within}
 use Rattle.mem_laws.proofs.VoteLemmas.{several_is, vote_is}
@@ -58,6 +58,7 @@ opened_shows s m nodes image seen =
       votes = λ c floor is. let e : None ≡ Some floor = sym (no_floor nodes c) ∙ is in absurd cc;
       kept = λ id typed. refl;
       records = λ k h. absurd h;
+      within = λ k h. absurd h;
       undecided = λ t is. absurd cc;
       granted = λ t is. absurd cc;
       image = bytes_of_cells image;
@@ -94,110 +95,12 @@ still_granted true c d f g own was is = refl
 still_granted false true d f g own was is = let e : false ≡ true = own refl in absurd cc
 still_granted false false d f g own was is = was is
 
-same_self : (a : TxId) → is_same a a ≡ true
-same_self a =
-    and_from (a.coord == a.coord) _ (eq-eqb a.coord a.coord refl) (and_from (a.boot == a.boot) _ (eq-eqb a.boot a.boot refl) (eq-eqb a.seq a.seq refl))
-
-pub found_in : (k : Kept) (kept : List Kept) → In k kept → is_some (kept_of kept k.id) ≡ true
-found_in k [] h = absurd h
-found_in k (y ∷ kept) h = elim h [
-  | inl e ↦ ap (λ b. is_some (cond b (Some y) (kept_of kept k.id))) (ap (λ (z : Kept). is_same z.id k.id) (sym e) ∙ same_self k.id)
-  | inr rest ↦ go (is_same y.id k.id) (found_in k kept rest)
-]
-  where
-    go : (b : Bool) → is_some (kept_of kept k.id) ≡ true → is_some (cond b (Some y) (kept_of kept k.id)) ≡ true
-    go true later = refl
-    go false later = later
-
-abbrev choose : Bool → ℕ × Bool → ℕ × Bool → Option (ℕ × Bool)
-choose b x y = cond b (Some x) (Some y)
-
-some_same : (a b : Floor) → Some a ≡ Some b → a ≡ b
-some_same a b e = cc
-
 module _ (s : Setting) (m : ℕ) (n : node.Node) (v : machine.View) (id : TxId) (participants : List ℕ) (items : List PlacedItem) (asked : IsAsked s m n v id participants items) where
   abbrev t : ℕ
   t = number id
 
-  -- ---- floors
-
-  raised_is : (floor : Option Floor) → ((f : Floor) → floor ≡ Some f → IsTypedId f.id) → (x : Vote)
-      → machine.raised t (is_granted x) (shown_floor floor) ≡ shown_floor (raised floor id x)
-  raised_is None typed x = refl
-  raised_is (Some f) typed x = go (nat_lt (number f.id) t) (precedes f.id id) (order_is f.id id (typed f refl) asked.typed)
-    where
-      go : (a b : Bool) → a ≡ b → choose a (t, is_granted x) (number f.id, is_granted f.vote) ≡ shown_floor (cond b (Some (record { id = id; vote = x })) (Some f))
-      go true true e = refl
-      go false false e = refl
-      go true false e = absurd cc
-      go false true e = absurd cc
-
-  floor_moves : (x : Vote) (c : ℕ) → cond (s.coord t == c) (machine.raised t (is_granted x) (machine.floor_of s v.records c)) (machine.floor_of s v.records c)
-      ≡ shown_floor (floor_at (raise n.state.floors id x) c)
-  floor_moves x c = elim (cases_eq c id.coord) [
-    | inl e ↦
-        ap (λ b. cond b (machine.raised t (is_granted x) (machine.floor_of s v.records c)) (machine.floor_of s v.records c)) (eq-eqb (s.coord t) c (asked.told.coordinator ∙ sym e))
-        ∙ ap (machine.raised t (is_granted x)) (asked.shows.floors c)
-        ∙ ap (λ k. machine.raised t (is_granted x) (shown_floor (floor_at n.state.floors k))) e
-        ∙ raised_is (floor_at n.state.floors id.coord) (λ f is. (asked.shows.votes id.coord f is).0) x
-        ∙ ap shown_floor (sym (get_or-set_same n.state.floors id.coord (raised (floor_at n.state.floors id.coord) id x) None asked.known))
-        ∙ ap (λ k. shown_floor (floor_at (raise n.state.floors id x) k)) (sym e)
-    | inr other ↦
-        ap (λ b. cond b (machine.raised t (is_granted x) (machine.floor_of s v.records c)) (machine.floor_of s v.records c))
-        (ne_eqb (s.coord t) c (λ is. other (sym is ∙ asked.told.coordinator)))
-        ∙ asked.shows.floors c ∙ ap shown_floor (sym (get_or-set_other n.state.floors id.coord c (raised (floor_at n.state.floors id.coord) id x) None other))
-  ]
-
-  above_raised : (floor : Option Floor) → node.to_floor floor id ≡ Above → (x : Vote) → raised floor id x ≡ Some (record { id = id; vote = x })
-  above_raised None above x = refl
-  above_raised (Some f) above x = go (precedes f.id id) (is_same f.id id) above
-    where
-      go : (a b : Bool) → cond a Above (cond b (At f.vote) (Below f.id)) ≡ Above → cond a (Some (record { id = id; vote = x })) (Some f) ≡ Some (record { id = id; vote = x })
-      go true b is = refl
-      go false true is = absurd cc
-      go false false is = absurd cc
-
-  -- each floor's vote shows where the new one does, and those of the other coordinators do
-  votes_after : (u : machine.View) (x : Vote) → node.standing n.state id ≡ Above → IsShownVote s m u id x
-      → ((c : ℕ) (f : Floor) → floor_at n.state.floors c ≡ Some f → (c ≡ id.coord → ⊥) → IsShownVote s m u f.id f.vote)
-      → (c : ℕ) (f : Floor) → floor_at (raise n.state.floors id x) c ≡ Some f → IsTypedId f.id × IsShownVote s m u f.id f.vote
-  votes_after u x above new old c f is = elim (cases_eq c id.coord) [
-    | inl e ↦
-        let now : Some (record { id = id; vote = x }) ≡ Some f =
-        sym (above_raised (floor_at n.state.floors id.coord) above x)
-        ∙ sym (get_or-set_same n.state.floors id.coord (raised (floor_at n.state.floors id.coord) id x) None asked.known)
-        ∙ ap (floor_at (raise n.state.floors id x)) (sym e) ∙ is in
-        subst (λ (g : Floor). IsTypedId g.id × IsShownVote s m u g.id g.vote) (some_same (record { id = id; vote = x }) f now) (asked.typed, new)
-    | inr other ↦
-        let was : floor_at n.state.floors c ≡ Some f =
-        sym (get_or-set_other n.state.floors id.coord c (raised (floor_at n.state.floors id.coord) id x) None other) ∙ is in
-        ((asked.shows.votes c f was).0, old c f was other)
-  ]
-
-  -- a floor of another coordinator is another identifier
-  other_number : (c : ℕ) (f : Floor) → floor_at n.state.floors c ≡ Some f → (c ≡ id.coord → ⊥) → number f.id ≡ t → ⊥
-  other_number c f is other e =
-      let top = (floors_are_greatest s v.records c).1 (number f.id) (is_granted f.vote) (asked.shows.floors c ∙ ap shown_floor is) in
-      other (sym top.1 ∙ ap s.coord e ∙ asked.told.coordinator)
-
-  -- ---- any other vote than Granted
-
-  refused_state : (x : Vote) → is_granted x ≡ false → node.standing n.state id ≡ Above
-      → Shows s m (after_one n.state (Some (entry.Refused id x))) (after_record s m v (Refuse t))
-  refused_state x is above =
-      record {
-        floors = λ c. subst
-            (λ g. cond (s.coord t == c) (machine.raised t g (machine.floor_of s v.records c)) (machine.floor_of s v.records c) ≡ shown_floor (floor_at (raise n.state.floors id x) c))
-            is (floor_moves x c);
-        votes = votes_after (after_record s m v (Refuse t)) x above (λ granted. absurd (not_two (is_granted x) granted is)) (λ c f was other. (asked.shows.votes c f was).1);
-        kept = asked.shows.kept;
-        records = λ k h.
-            let shown = asked.shows.records k h in
-            record { typed = shown.typed; granted = shown.granted; vote = shown.vote; undecided = shown.undecided; locked = shown.locked };
-        undecided = asked.shows.undecided;
-        granted = asked.shows.granted;
-        image = asked.shows.image;
-      }
+  named : IsNamed s m n.state v id
+  named = record { typed = asked.typed; known = asked.known; coordinator = asked.told.coordinator; shows = asked.shows }
 
   -- ---- Granted
 
@@ -232,9 +135,9 @@ module _ (s : Setting) (m : ℕ) (n : node.Node) (v : machine.View) (id : TxId) 
       → Shows s m (after_one n.state (Some (entry.Single id vote_now (writes_of items)))) view_now
   granted_state logged alone unkept above =
       record {
-        floors = floor_moves vote_now;
-        votes = votes_after view_now vote_now above (λ granted. (logged, read_now))
-            (λ c f was other. vote_alike s m v view_now f.id f.vote (seen_before (number f.id) (other_number c f was other)) (asked.shows.votes c f was).1);
+        floors = floor_moves s m n v id named vote_now;
+        votes = votes_after s m n v id named view_now vote_now above (λ granted. (logged, read_now))
+            (λ c f was other. vote_alike s m v view_now f.id f.vote (seen_before (number f.id) (other_number s m n v id named c f was other)) (asked.shows.votes c f was).1);
         kept = λ other typed.
             same_kept (t == number other) (machine.has_grant v.records (number other)) (has_several (nodes_of s (number other))) (not (machine.has_forget v.records (number other)))
             (λ is. ap (λ u. has_several (nodes_of s u)) (sym (eqb-true t (number other) is)) ∙ alone)
@@ -250,7 +153,10 @@ module _ (s : Setting) (m : ℕ) (n : node.Node) (v : machine.View) (id : TxId) 
                   ap (λ b. (b || machine.has_grant v.records (number k.id)) && not (b || machine.has_decision v.records (number k.id))) (other_test (number k.id) other)
                   ∙ shown.undecided;
               locked = shown.locked;
+              written = shown.written;
             };
+        within = λ k h. same_size k.writes (length n.state.image) (length (written n.state.image (writes_of items)))
+            (sym (length_written (writes_of items) n.state.image (writes_within (length n.state.image) items (within s m n v id participants items asked)))) (asked.shows.within k h);
         undecided = λ u is. asked.shows.undecided u (apart_from (t == u) (machine.has_grant v.records u) (machine.has_decision v.records u) is).1;
         granted = λ u is.
             still_granted (t == u) (t == u) (machine.has_decision v.records u) (machine.has_forget v.records u) (machine.has_grant v.records u) (λ e. e) (asked.shows.granted u) is;
@@ -307,9 +213,9 @@ module _ (s : Setting) (m : ℕ) (n : node.Node) (v : machine.View) (id : TxId) 
       → Shows s m (after_one n.state (Some (entry.Prepared id participants vote_now (map range_of items) (writes_of items)))) view_kept
   kept_state logged many unkept above =
       record {
-        floors = floor_moves vote_now;
-        votes = votes_after view_kept vote_now above (λ granted. (logged, read_now))
-            (λ c f was other. vote_alike s m v view_kept f.id f.vote (seen_before (number f.id) (other_number c f was other)) (asked.shows.votes c f was).1);
+        floors = floor_moves s m n v id named vote_now;
+        votes = votes_after s m n v id named view_kept vote_now above (λ granted. (logged, read_now))
+            (λ c f was other. vote_alike s m v view_kept f.id f.vote (seen_before (number f.id) (other_number s m n v id named c f was other)) (asked.shows.votes c f was).1);
         kept = λ other typed.
             more_kept (t == number other) (machine.has_grant v.records (number other)) (has_several (nodes_of s (number other))) (not (machine.has_forget v.records (number other)))
             (λ is. subst (λ u. (has_several (nodes_of s u) && not (machine.has_forget v.records u)) ≡ true) (eqb-true t (number other) is)
@@ -320,6 +226,10 @@ module _ (s : Setting) (m : ℕ) (n : node.Node) (v : machine.View) (id : TxId) 
         records = λ k h. elim (in_either k n.state.kept (record_now ∷ []) h) [
           | inl before ↦ older k before
           | inr last ↦ newest k last
+        ];
+        within = λ k h. elim (in_either k n.state.kept (record_now ∷ []) h) [
+          | inl before ↦ asked.shows.within k before
+          | inr last ↦ newest_within k last
         ];
         undecided = λ u is. go u (t == u) refl is;
         granted = λ u is.
@@ -337,6 +247,7 @@ module _ (s : Setting) (m : ℕ) (n : node.Node) (v : machine.View) (id : TxId) 
             vote = vote_alike s m v view_kept k.id k.vote (seen_before (number k.id) other) shown.vote;
             undecided = ap (λ b. (b || machine.has_grant v.records (number k.id)) && not (machine.has_decision v.records (number k.id))) (other_test (number k.id) other) ∙ shown.undecided;
             locked = shown.locked;
+            written = shown.written;
           }
 
       new_record : IsShownRecord s m view_kept record_now
@@ -349,11 +260,17 @@ module _ (s : Setting) (m : ℕ) (n : node.Node) (v : machine.View) (id : TxId) 
                 ap (λ b. (b || machine.has_grant v.records t) && not (machine.has_decision v.records t)) (eq-eqb t t refl)
                 ∙ not_from_false (machine.has_decision v.records t) (never_decided above).0;
             locked = λ is. asked.told.touched;
+            written = asked.told.written;
           }
 
       newest : (k : Kept) → In k (record_now ∷ []) → IsShownRecord s m view_kept k
       newest k (inl e) = subst (λ (x : Kept). IsShownRecord s m view_kept x) (sym e) new_record
       newest k (inr none) = absurd none
+
+      newest_within : (k : Kept) → In k (record_now ∷ []) → AreWritesWithin (length n.state.image) k.writes
+      newest_within k (inl e) =
+          subst (λ (x : Kept). AreWritesWithin (length n.state.image) x.writes) (sym e) (writes_within (length n.state.image) items (within s m n v id participants items asked))
+      newest_within k (inr none) = absurd none
 
       go : (u : ℕ) (b : Bool) → (t == u) ≡ b → ((b || machine.has_grant v.records u) && not (machine.has_decision v.records u)) ≡ true
           → (k : Kept) × In k (n.state.kept ++ record_now ∷ []) × (number k.id ≡ u)
@@ -401,7 +318,7 @@ module _ (s : Setting) (m : ℕ) (n : node.Node) (v : machine.View) (id : TxId) 
   refuses_state x is same new = go (node.is_logged participants items)
     where
       go : (b : Bool) → ShowsAfter (cond b (node.appends n (node.entry_of_vote id participants items x) (Voted id x)) (node.answers n (Voted id x))).entry
-      go true = subst (λ (e : Entry). ShowsAfter (Some e)) (sym same) (refused_state x is new.1)
+      go true = subst (λ (e : Entry). ShowsAfter (Some e)) (sym same) (refused_state s m n v id named x is new.1)
       go false = asked.shows
 
   grants_state : IsNew → ShowsAfter (node.casts n id participants items vote_now).entry

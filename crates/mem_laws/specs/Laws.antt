@@ -45,6 +45,7 @@ StatesAreTheMachines = (s : Setting) (m : ℕ) (n : node.Node) (w : World) (id :
 -- a memory node shows in the machine, and a message names this identifier
 pub record IsNamed (s : Setting) (m : ℕ) (state : State) (v : machine.View) (id : TxId) : Type 0 where
   pub typed : IsTypedId id
+  pub known : id.coord < length state.floors
   pub coordinator : s.coord (number id) ≡ id.coord
   pub shows : Shows s m state v
 
@@ -64,6 +65,22 @@ abbrev pub AnswersAreTheMachines : Type 0
 AnswersAreTheMachines = (s : Setting) (m : ℕ) (n : node.Node) (v : machine.View) (id : TxId) → IsNamed s m n.state v id
     → (ok : Bool) × IsSameReaction (node.on_ask n id (kept_of n.state.kept id)) (machine.on_ask s m v (number id))
     (Some (sent.Answer id ok)) ((if ok then AnswerOk m (number id) else AnswerAbort m (number id)) ∷ [])
+
+-- after each of these it shows in the machine again
+abbrev pub DecisionsLeaveTheSame : Type 0
+DecisionsLeaveTheSame = (s : Setting) (m : ℕ) (n : node.Node) (w : World) (id : TxId) (commit : Bool) → IsNamed s m n.state (machine.view w m) id
+    → Shows s m (after_one n.state (node.on_decide n id commit (kept_of n.state.kept id)).entry)
+    (machine.view (after_all s w (appending s w m (if commit then machine.on_commit m (machine.view w m) (number id) else machine.on_abort s m (machine.view w m) (number id)).appends)) m)
+
+abbrev pub ForgettingLeavesTheSame : Type 0
+ForgettingLeavesTheSame = (s : Setting) (m : ℕ) (n : node.Node) (w : World) (id : TxId) → IsNamed s m n.state (machine.view w m) id
+    → Shows s m (after_one n.state (node.on_forget n id (kept_of n.state.kept id)).entry)
+    (machine.view (after_all s w (appending s w m (machine.on_forget s (machine.view w m) (number id)).appends)) m)
+
+abbrev pub AnswersLeaveTheSame : Type 0
+AnswersLeaveTheSame = (s : Setting) (m : ℕ) (n : node.Node) (w : World) (id : TxId) → IsNamed s m n.state (machine.view w m) id
+    → Shows s m (after_one n.state (node.on_ask n id (kept_of n.state.kept id)).entry)
+    (machine.view (after_all s w (appending s w m (machine.on_ask s m (machine.view w m) (number id)).appends)) m)
 
 -- a memory node appends a record in this event
 abbrev pub IsAt : ℕ → Event → Type 0

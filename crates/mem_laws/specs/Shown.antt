@@ -1,5 +1,6 @@
 -- How what a memory node has, and what it does, shows in the machine of the transaction protocol.
 use Rattle.std.specs.Prelude.{◌≡◌, ◌≤◌, ◌+◌, ℕ, Bool, ◌||◌, true, List, [], ◌∷◌, length, map, Option, Some, None, is_some, if◌then◌else◌}
+use Rattle.std.specs.List.{AllByRecursion}
 use Rattle.mini_tx.specs.declared.entry.Entry.{Entry}
 use Rattle.mini_tx.specs.declared.entry.Entry.TheVariants as entry
 use Rattle.mini_tx.specs.declared.message.Message as sent
@@ -15,6 +16,7 @@ use Rattle.mem_node.specs.declared.floor.Floor.{Floor}
 use Rattle.mem_node.specs.declared.kept.Kept.{Kept}
 use Rattle.mem_node.specs.declared.rule.Rule.{Rule}
 use Rattle.mem_node.specs.declared.rule.Rule.TheVariants.{RecordAgain, FloorAgain, ForcedBy, HeldBy, LockedBy, MismatchAt, Passes}
+use Rattle.mem_node.specs.Fit.{IsWriteInside}
 use Rattle.mem_node.specs.Items.{range_of, writes_of}
 use Rattle.mem_node.specs.Rules as node
 use Rattle.mem_node.specs.State.{State, floor_at, kept_of}
@@ -64,6 +66,7 @@ pub record IsShownRecord (s : Setting) (m : ℕ) (v : machine.View) (k : Kept) :
   pub vote : IsShownVote s m v k.id k.vote
   pub undecided : machine.is_undecided v.records (number k.id) ≡ node.is_undecided k
   pub locked : node.is_undecided k ≡ true → cells_of s (number k.id) m ≡ cells_in k.ranges
+  pub written : (a : ℕ) → (s.mini (number k.id)).writes m a ≡ written_in k.writes a
 
 -- the machine's memory node has what this one has
 pub record Shows (s : Setting) (m : ℕ) (state : State) (v : machine.View) : Type 0 where
@@ -71,6 +74,7 @@ pub record Shows (s : Setting) (m : ℕ) (state : State) (v : machine.View) : Ty
   pub votes : (c : ℕ) (floor : Floor) → floor_at state.floors c ≡ Some floor → IsTypedId floor.id × IsShownVote s m v floor.id floor.vote
   pub kept : (id : TxId) → IsTypedId id → machine.is_kept s v.records (number id) ≡ is_some (kept_of state.kept id)
   pub records : (k : Kept) → In k state.kept → IsShownRecord s m v k
+  pub within : (k : Kept) → In k state.kept → AllByRecursion (IsWriteInside (length state.image)) k.writes
   pub undecided : (t : ℕ) → machine.is_undecided v.records t ≡ true → (k : Kept) × In k state.kept × (number k.id ≡ t)
   -- what is decided or forgotten was granted
   pub granted : (t : ℕ) → (machine.has_decision v.records t || machine.has_forget v.records t) ≡ true → machine.has_grant v.records t ≡ true

@@ -1,5 +1,5 @@
 //! Laws of a memory node's rules and of the machine's.
-ghost use Rattle.mem_laws.specs.Laws.{RulesAreTheMachines, VotesAreTheMachines, StatesAreTheMachines, DecisionsAreTheMachines, ForgettingIsTheMachines, AnswersAreTheMachines, OthersLeaveIt, OpenedNodesShow};
+ghost use Rattle.mem_laws.specs.Laws.{RulesAreTheMachines, VotesAreTheMachines, StatesAreTheMachines, DecisionsAreTheMachines, ForgettingIsTheMachines, AnswersAreTheMachines, DecisionsLeaveTheSame, ForgettingLeavesTheSame, AnswersLeaveTheSame, OthersLeaveIt, OpenedNodesShow};
 
 /// A memory node finds the rule that the machine finds.
 pub fn rules_are_the_machines()
@@ -29,6 +29,21 @@ pub fn forgetting_is_the_machines()
 /// And with `ask`.
 pub fn answers_are_the_machines()
     ensures { AnswersAreTheMachines }
+{}
+
+/// After `decide` a memory node shows in the machine again.
+pub fn decisions_leave_the_same()
+    ensures { DecisionsLeaveTheSame }
+{}
+
+/// After `forget` it does.
+pub fn forgetting_leaves_the_same()
+    ensures { ForgettingLeavesTheSame }
+{}
+
+/// And after `ask`.
+pub fn answers_leave_the_same()
+    ensures { AnswersLeaveTheSame }
 {}
 
 /// What happens elsewhere in the machine changes nothing of it.
