@@ -76,7 +76,9 @@ fn time_copy<R: Print + Clock + AllocGlobal>(rt: &R) -> io::Result<()> {
 
 fn time_reads<R: Print + Clock + AllocGlobal>(rt: &R) -> io::Result<()> {
     let mut node = loaded(rt.alloc()).map_err(refused)?;
-    let message = prepare(rt.alloc(), 1, read_item()).map_err(NodeFault::from).map_err(refused)?;
+    let message = prepare(rt.alloc(), 1, read_item())
+        .map_err(NodeFault::from)
+        .map_err(refused)?;
     let start = Instant::now(rt)?;
     let sum = vote_on_reads(&mut node, &message).map_err(refused)?;
     report(rt, "vote_on_a_read", start.elapsed(rt)?, sum)
@@ -123,10 +125,7 @@ fn vote_on_reads<D: Disk>(node: &mut MemNode<D>, message: &Message) -> Result<u6
 }
 
 /// The answer to a prepare.
-fn vote<D: Disk>(
-    node: &mut MemNode<D>,
-    message: &Message,
-) -> Result<Option<Message>, NodeFault>
+fn vote<D: Disk>(node: &mut MemNode<D>, message: &Message) -> Result<Option<Message>, NodeFault>
     requires setup { setup_of node.old ≡ lone }
     requires fit { IsAsked message.now }
     ensures { setup_of node.new ≡ lone }
@@ -177,10 +176,12 @@ fn read_item() -> Item
 /// How many bytes were read.
 fn bytes_read(answer: &Option<Message>) -> u64 {
     match answer {
-        Some(Message::Voted {
-            vote: Vote::Granted(reads),
-            ..
-        }) => match reads.as_slice().first() {
+        Some(
+            Message::Voted {
+                vote: Vote::Granted(reads),
+                ..
+            },
+        ) => match reads.as_slice().first() {
             Some(bytes) => bytes.len() as u64,
             None => 0,
         },
