@@ -1,10 +1,10 @@
 -- All locks exclude each other, before and after a call.
-use Rattle.std.proofs.Common.{◌≡◌, ℕ, zero, suc, ◌<◌, List, [], ◌∷◌, ◌++◌, length, ◌⊎◌, inl, inr, refl, sym, subst, ◌∙◌, arith}
+use Rattle.std.proofs.Common.{◌≡◌, List, [], ◌∷◌, ◌++◌, ◌⊎◌, inl, inr, sym, subst, ◌∙◌, arith}
 use Rattle.std.specs.Prelude.{◌≢◌, Any}
 use Rattle.mini_tx.specs.declared.tx_id.TxId.{TxId}
 use Rattle.mini_tx.specs.declared.range.Range.{Range}
 use Rattle.lock_table.specs.declared.lock.Lock.{Lock}
-use Rattle.lock_table.specs.Held.{ranges_of, lock_of, Overlaps, Meet, Blocks, Changes, AreExclusive}
+use Rattle.lock_table.specs.Held.{ranges_of, lock_of, Overlaps, Meet, Changes, AreExclusive}
 use Rattle.lock_table.specs.Refusal.{IsFree}
 use Rattle.lock_table.proofs.MapLemmas.{own_or_other, any_cases, any_later, any_here}
 

@@ -1,5 +1,5 @@
 -- What a table of locks says.
-use Rattle.std.specs.Prelude.{◌≡◌, ◌≢◌, ℕ, ◌+◌, ◌<◌, ◌≤◌, Bool, ◌==◌, ◌&&◌, List, [], map, filter, Any}
+use Rattle.std.specs.Prelude.{◌≡◌, ◌≢◌, ℕ, ◌+◌, ◌<◌, ◌≤◌, Bool, ◌==◌, ◌&&◌, nat_lt, max, min, List, [], map, filter, Any}
 use Rattle.mini_tx.specs.declared.tx_id.TxId.{TxId}
 use Rattle.mini_tx.specs.declared.range.Range.{Range}
 use Rattle.lock_table.specs.declared.lock.Lock.{Lock}
@@ -24,6 +24,10 @@ Covers range place = (range.at ≤ place) × (place < range.at + range.length)
 -- two ranges overlap: they share a place
 abbrev pub Overlaps : Range → Range → Type 0
 Overlaps a b = (place : ℕ) × Covers a place × Covers b place
+
+-- the same as a test: the later beginning lies before the earlier end
+abbrev pub overlap : Range → Range → Bool
+overlap a b = nat_lt (max a.at b.at) (min (a.at + a.length) (b.at + b.length))
 
 -- one of these ranges overlaps one of those
 abbrev pub Meet : List Range → List Range → Type 0

@@ -17,6 +17,7 @@ pub use lock::Lock;
 pub use lock_fault::LockFault;
 pub use locks::Locks;
 pub use mini_tx::Range;
+pub use overlap::overlaps;
 
 #[cfg(test)]
 mod tests;

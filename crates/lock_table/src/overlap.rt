@@ -1,12 +1,13 @@
-ghost use Rattle.std.specs.Prelude.{◌↔◌, IsTrue, Any};
-ghost use Rattle.lock_table.specs.Held.{Overlaps, InTheWay};
+ghost use Rattle.std.specs.Prelude.{◌≡◌, ◌↔◌, IsTrue, Any};
+ghost use Rattle.lock_table.specs.Held.{Overlaps, overlap, InTheWay};
 
 use crate::lock::Lock;
 use mini_tx::{Range, TxId};
 
 /// Whether two ranges share a place. An empty range overlaps none.
-pub(crate) fn overlaps(a: Range, b: Range) -> bool
-    ensures { IsTrue result ↔ Overlaps a b }
+pub fn overlaps(a: Range, b: Range) -> bool
+    ensures shared { IsTrue result ↔ Overlaps a b }
+    ensures test { result ≡ overlap a b }
 {
     let end_of_a = a.at as u64 + a.length as u64;
     let end_of_b = b.at as u64 + b.length as u64;

@@ -7,3 +7,4 @@ pub mod LoadLemmas
 pub mod LayLemmas
 pub mod FreshNodeLemmas
 pub mod FormatLemmas
+pub mod FixtureLemmas

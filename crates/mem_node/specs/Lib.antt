@@ -10,3 +10,4 @@ pub mod Node
 pub mod Fault
 pub mod Format
 pub mod Lay
+pub mod Fixture

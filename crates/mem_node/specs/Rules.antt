@@ -1,5 +1,5 @@
 -- How a memory node answers each message.
-use Rattle.std.specs.Prelude.{ℕ, ◌+◌, Bool, true, false, not, nat_lt, nat_le, ◌&&◌, ◌||◌, is_none, List, [], ◌∷◌, map, length, take, drop, Option, Some, None, if◌then◌else◌}
+use Rattle.std.specs.Prelude.{ℕ, Bool, true, false, not, nat_le, ◌&&◌, ◌||◌, is_none, List, [], ◌∷◌, map, length, take, drop, Option, Some, None, if◌then◌else◌}
 use Rattle.std.specs.List.{list_any}
 use Rattle.mini_tx.specs.declared.cut_id.CutId.{CutId}
 use Rattle.mini_tx.specs.declared.entry.Entry.{Entry}
@@ -14,6 +14,7 @@ use Rattle.mini_tx.specs.declared.tx_id.TxId.{TxId}
 use Rattle.mini_tx.specs.declared.vote.Vote.{Vote}
 use Rattle.mini_tx.specs.declared.vote.Vote.TheVariants as vote
 use Rattle.mini_tx.specs.EntryGrammar.{is_granted}
+use Rattle.lock_table.specs.Held.{overlap}
 use Rattle.mem_node.specs.declared.floor.Floor.{Floor}
 use Rattle.mem_node.specs.declared.kept.Kept.{Kept}
 use Rattle.mem_node.specs.declared.rule.Rule.{Rule}
@@ -67,12 +68,9 @@ standing s id = to_floor (floor_at s.floors id.coord) id
 
 -- ---- locks: the ranges of kept records that are not decided
 
-abbrev pub overlaps : Range → Range → Bool
-overlaps a b = nat_lt a.at (b.at + b.length) && nat_lt b.at (a.at + a.length)
-
 -- whether one of these ranges overlaps one of those
 abbrev pub meet : List Range → List Range → Bool
-meet these those = list_any (λ a. list_any (overlaps a) those) these
+meet these those = list_any (λ a. list_any (overlap a) those) these
 
 abbrev pub is_undecided : Kept → Bool
 is_undecided k = is_none k.decision

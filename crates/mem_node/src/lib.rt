@@ -46,4 +46,6 @@ pub use setup::Setup;
 pub use standing::Standing;
 
 #[cfg(test)]
+mod fixture;
+#[cfg(test)]
 mod tests;

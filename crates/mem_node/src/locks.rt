@@ -1,11 +1,13 @@
 ghost use Rattle.std.specs.Prelude.{◌≡◌, Some, None};
 ghost use Rattle.std.specs.List.{list_any};
 ghost use Rattle.std.specs.Option.{option_copied};
-ghost use Rattle.mem_node.specs.Rules.{overlaps, meet, is_undecided as is_open, blocks, least_of, least_with};
+ghost use Rattle.lock_table.specs.Held.{overlap};
+ghost use Rattle.mem_node.specs.Rules.{meet, is_undecided as is_open, blocks, least_of, least_with};
 ghost use Rattle.mem_node.specs.State.{kept_of};
 
 use crate::kept::Kept;
 use crate::order::{are_equal, is_before};
+use lock_table::overlaps;
 use mini_tx::{Range, TxId};
 
 /// The kept record of an identifier.
@@ -22,19 +24,11 @@ pub(crate) fn is_undecided(kept: &Kept) -> bool
     kept.decision.is_none()
 }
 
-/// Whether two ranges overlap.
-fn overlap(a: Range, b: Range) -> bool
-    ensures { result ≡ overlaps a b }
-{
-    u64::from(a.at) < u64::from(b.at) + u64::from(b.length)
-        && u64::from(b.at) < u64::from(a.at) + u64::from(a.length)
-}
-
 /// Whether a range overlaps one of these.
 fn overlaps_any(range: Range, others: &[Range]) -> bool
-    ensures { result ≡ list_any (overlaps range) others.now }
+    ensures { result ≡ list_any (overlap range) others.now }
 {
-    others.iter().any(|other| overlap(range, *other))
+    others.iter().any(|other| overlaps(range, *other))
 }
 
 /// Whether one of these ranges overlaps one of those.

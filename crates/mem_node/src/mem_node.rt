@@ -207,7 +207,7 @@ impl<D: Disk> MemNode<D> {
 impl<D: Disk> MemNode<Stop<D>> {
     ghost use Rattle.std.specs.Prelude.{◌↔◌, Some, IsTrue};
     ghost use Rattle.disk_model.specs.Stop.{disk_of as stopped_disk_of, left_of, refused_of};
-    ghost use Rattle.mem_node.specs.Node.{node_disk_of, node_of};
+    ghost use Rattle.mem_node.specs.Node.{log_of, node_disk_of, node_of, setup_of, shut_of};
 
     /// From now on this many writes and syncs pass to the disk below, or all of them. It takes no memory.
     pub fn stop_after(&mut self, calls: Option<u32>)
@@ -216,6 +216,9 @@ impl<D: Disk> MemNode<Stop<D>> {
         ensures disk { stopped_disk_of (node_disk_of self.new) ≡ stopped_disk_of (node_disk_of self.old) }
         ensures refused { refused_of (node_disk_of self.new) ≡ refused_of (node_disk_of self.old) }
         ensures node { node_of self.new ≡ node_of self.old }
+        ensures setup { setup_of self.new ≡ setup_of self.old }
+        ensures shut { shut_of self.new ≡ shut_of self.old }
+        ensures log { log_of self.new ≡ record (log_of self.old) { disk = node_disk_of self.new } }
     {
         self.log.stop_after(calls);
     }

@@ -5,12 +5,14 @@
 //! - [`blocks`]: the records on the blocks of a memory node.
 //! - [`log_calls`]: appends to a log on a disk in memory, and loads of it.
 //! - [`minis`]: minitransactions of the most items, and locks in a table that holds many.
+//! - [`vote`]: votes of a memory node, on writes and on a read of 8 KiB.
 //! - [`wire`]: messages with 8 KiB of data.
 #![tactic(auto)]
 
 mod blocks;
 mod log_calls;
 mod minis;
+mod vote;
 mod wire;
 
 use std::{env, io};
@@ -21,6 +23,7 @@ fn main(rt: HostRuntime) -> io::Result<()> {
         Some(word) if word.as_str() == "blocks" => blocks::run(&rt),
         Some(word) if word.as_str() == "log" => log_calls::run(&rt),
         Some(word) if word.as_str() == "minis" => minis::run(&rt),
+        Some(word) if word.as_str() == "vote" => vote::run(&rt),
         Some(word) if word.as_str() == "wire" => wire::run(&rt),
         _ => Ok(()),
     }

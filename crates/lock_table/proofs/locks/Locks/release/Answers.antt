@@ -1,4 +1,4 @@
-use Rattle.std.proofs.Common.{rules, ◌≡◌, [], sym, subst, ap, ◌∙◌}
+use Rattle.std.proofs.Common.{rules, [], sym, subst, ap, ◌∙◌}
 use Rattle.std.specs.Prelude.{filter}
 use Rattle.std.proofs.lemmas.Fn.{filter_same}
 use Rattle.lock_table.specs.Held.{is_held_by, Changes, AreExclusive}

@@ -1,4 +1,4 @@
-use Rattle.std.proofs.Common.{◌≡◌, ◌++◌, List, map, sym, ap, subst, ◌∙◌}
+use Rattle.std.proofs.Common.{◌++◌, List, map, sym, ap, subst, ◌∙◌}
 use Rattle.lock_table.specs.declared.lock.Lock.{Lock}
 use Rattle.lock_table.specs.Held.{ranges_of, Changes, AreExclusive, lock_of}
 use Rattle.lock_table.proofs.ExclusionLemmas.{exclusive_locked}

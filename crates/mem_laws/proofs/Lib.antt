@@ -1,0 +1,11 @@
+pub mod CellLemmas
+pub mod LeastLemmas
+pub mod WantLemmas
+pub mod RuleLemmas
+pub mod VoteLemmas
+pub mod ImageLemmas
+pub mod AlikeLemmas
+pub mod FloorLemmas
+pub mod StateLemmas
+pub mod DecideLemmas
+pub mod LeaveLemmas

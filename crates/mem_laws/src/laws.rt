@@ -1,0 +1,57 @@
+//! Laws of a memory node's rules and of the machine's.
+ghost use Rattle.mem_laws.specs.Laws.{RulesAreTheMachines, VotesAreTheMachines, StatesAreTheMachines, DecisionsAreTheMachines, ForgettingIsTheMachines, AnswersAreTheMachines, DecisionsLeaveTheSame, ForgettingLeavesTheSame, AnswersLeaveTheSame, OthersLeaveIt, OpenedNodesShow};
+
+/// A memory node finds the rule that the machine finds.
+pub fn rules_are_the_machines()
+    ensures { RulesAreTheMachines }
+{}
+
+/// A memory node appends what the machine appends, and sends the vote that it posts.
+pub fn votes_are_the_machines()
+    ensures { VotesAreTheMachines }
+{}
+
+/// After a vote a memory node shows in the machine again.
+pub fn states_are_the_machines()
+    ensures { StatesAreTheMachines }
+{}
+
+/// A memory node does with `decide` what the machine does.
+pub fn decisions_are_the_machines()
+    ensures { DecisionsAreTheMachines }
+{}
+
+/// And with `forget`.
+pub fn forgetting_is_the_machines()
+    ensures { ForgettingIsTheMachines }
+{}
+
+/// And with `ask`.
+pub fn answers_are_the_machines()
+    ensures { AnswersAreTheMachines }
+{}
+
+/// After `decide` a memory node shows in the machine again.
+pub fn decisions_leave_the_same()
+    ensures { DecisionsLeaveTheSame }
+{}
+
+/// After `forget` it does.
+pub fn forgetting_leaves_the_same()
+    ensures { ForgettingLeavesTheSame }
+{}
+
+/// And after `ask`.
+pub fn answers_leave_the_same()
+    ensures { AnswersLeaveTheSame }
+{}
+
+/// What happens elsewhere in the machine changes nothing of it.
+pub fn others_leave_it()
+    ensures { OthersLeaveIt }
+{}
+
+/// Without entries a memory node shows in a machine without records.
+pub fn opened_nodes_show()
+    ensures { OpenedNodesShow }
+{}

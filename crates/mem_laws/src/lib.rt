@@ -1,0 +1,15 @@
+//! A memory node votes as the memory node of the transaction protocol's machine does.
+//!
+//! There is no code here: `specs/Shown.antt` says how what [`mem_node`] has and does shows in the machine of
+//! [`tx_actors`], where an identifier is a number and an item is its cells, and each function below has one
+//! law as its contract (`docs/PROMISES.md`, "A memory node").
+#![tactic(auto)]
+
+mod laws;
+
+pub use laws::{
+    answers_are_the_machines, answers_leave_the_same, decisions_are_the_machines,
+    decisions_leave_the_same, forgetting_is_the_machines, forgetting_leaves_the_same,
+    opened_nodes_show, others_leave_it, rules_are_the_machines, states_are_the_machines,
+    votes_are_the_machines,
+};

@@ -1,0 +1,171 @@
+//! What the tests of a memory node share.
+ghost use Rattle.std.specs.Prelude.{◌≡◌, IfOk};
+ghost use Rattle.mem_node.specs.Fixture.{lone, AreFitItems};
+ghost use Rattle.mem_node.specs.Node.{setup_of};
+
+use crate::mem_node::MemNode;
+use crate::node_fault::NodeFault;
+use crate::replay::LOG_AT;
+use crate::setup::Setup;
+use disk_model::{Calls, Choice, Disk, PlanDisk};
+use gate_log::Log;
+use mini_tx::{
+    Actor, Bytes, Geometry4, Item, Message, NoMemory, Numbers, Placed, PlacedItem, Reads, TxId,
+    Vote,
+};
+use std::alloc::Global;
+
+/// The one memory node of the smallest cluster. Its one block begins at 12288.
+pub(crate) const SETUP: Setup = Setup {
+    geometry: Geometry4 {
+        nodes: 1,
+        memories: 1,
+        blocks: 1,
+        inodes: 1,
+    },
+    index: 0,
+};
+
+/// Where its block begins.
+const BLOCK_AT: u32 = 12_288;
+
+/// What a restart may take.
+pub(crate) const CHOICES: [Choice; 4] = [
+    Choice::Old,
+    Choice::New,
+    Choice::Fill(1),
+    Choice::Fill(7),
+];
+
+/// The identifier with this number of the first start of node 0.
+pub(crate) fn id_of(seq: u64) -> TxId
+    ensures { result.coord ≡ 0 }
+{
+    TxId {
+        coord: 0,
+        boot: 1,
+        seq,
+    }
+}
+
+/// A disk that was never written, of which the calls with these numbers fail.
+pub(crate) fn disk_failing(alloc: Global, calls: &[u64]) -> Result<PlanDisk, NoMemory> {
+    Ok(PlanDisk::new(alloc, Calls::from_slice(alloc, calls)?))
+}
+
+/// The memory node of this disk. Where it is refused the disk is let go.
+pub(crate) fn loaded<D: Disk + Drop>(alloc: Global, disk: D) -> Result<MemNode<D>, NodeFault>
+    ensures { IfOk result (λ node. setup_of node ≡ lone) }
+{
+    match MemNode::load(alloc, disk, SETUP) {
+        Ok(node) => Ok(node),
+        Err((fault, _disk)) => Err(fault),
+    }
+}
+
+/// How many entries the log of this disk has.
+pub(crate) fn count_entries<D: Disk + Drop>(
+    alloc: Global,
+    disk: D,
+) -> Result<(usize, D), NodeFault> {
+    match Log::load(alloc, disk, LOG_AT) {
+        Ok((log, entries)) => Ok((entries.len(), log.into_disk())),
+        Err((fault, _disk)) => Err(NodeFault::from(fault)),
+    }
+}
+
+/// What a test asks a memory node to vote on.
+#[derive(Clone, Copy, Debug)]
+pub(crate) enum Ask {
+    /// The first four bytes of the superblock.
+    ReadMark,
+    /// 7 into the first byte of the block.
+    WriteSeven,
+    /// 9 into it, where it has 8.
+    ChangeEight,
+}
+
+/// Its items.
+fn items_of(alloc: Global, ask: Ask) -> Result<Placed, NoMemory>
+    ensures { IfOk result AreFitItems }
+{
+    let mut items = Placed::new(alloc);
+    match ask {
+        Ask::ReadMark => items.push(PlacedItem {
+            place: 0,
+            item: Item::Read {
+                memory: 0,
+                at: 0,
+                length: 4,
+            },
+        })?,
+        Ask::WriteSeven => items.push(PlacedItem {
+            place: 0,
+            item: Item::Write {
+                memory: 0,
+                at: BLOCK_AT,
+                bytes: Bytes::from_slice(alloc, &[7])?,
+            },
+        })?,
+        Ask::ChangeEight => {
+            items.push(PlacedItem {
+                place: 0,
+                item: Item::Compare {
+                    memory: 0,
+                    at: BLOCK_AT,
+                    bytes: Bytes::from_slice(alloc, &[8])?,
+                },
+            })?;
+            items.push(PlacedItem {
+                place: 1,
+                item: Item::Write {
+                    memory: 0,
+                    at: BLOCK_AT,
+                    bytes: Bytes::from_slice(alloc, &[9])?,
+                },
+            })?;
+        }
+    }
+    Ok(items)
+}
+
+/// The memory node's answer to the prepare of an identifier of which it is the one participant.
+pub(crate) fn prepare<D: Disk>(
+    alloc: Global,
+    node: &mut MemNode<D>,
+    seq: u64,
+    ask: Ask,
+) -> Result<Option<Message>, NodeFault>
+    requires { setup_of node.old ≡ lone }
+    ensures { setup_of node.new ≡ lone }
+{
+    let message = Message::Prepare {
+        id: id_of(seq),
+        participants: Numbers::from_slice(alloc, &[0])?,
+        items: items_of(alloc, ask)?,
+    };
+    node.handle(Actor::Node(0), &message)
+}
+
+/// That it votes so.
+pub(crate) fn voted(seq: u64, vote: Vote) -> Option<Message> {
+    Some(Message::Voted {
+        id: id_of(seq),
+        vote,
+    })
+}
+
+/// The vote of a read that found these bytes.
+pub(crate) fn granted(alloc: Global, bytes: &[u8]) -> Result<Vote, NoMemory> {
+    let mut reads = Reads::new(alloc);
+    reads.push(Bytes::from_slice(alloc, bytes)?)?;
+    Ok(Vote::Granted(reads))
+}
+
+/// The vote where these bytes stand at the compare item with this place.
+pub(crate) fn mismatch(alloc: Global, item: u32, kept: &[u8]) -> Result<Vote, NoMemory> {
+    Ok(Vote::Mismatch {
+        item,
+        kept: Bytes::from_slice(alloc, kept)?,
+    })
+}

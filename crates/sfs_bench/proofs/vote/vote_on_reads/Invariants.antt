@@ -1,0 +1,8 @@
+use Rattle.std.proofs.Common.{◌≡◌}
+use Rattle.mem_node.specs.Fixture.{lone}
+use Rattle.mem_node.specs.Node.{setup_of}
+use Rattle.sfs_bench.proofs.vote.vote_on_reads.Given as goal
+
+-- it is the memory node of the smallest cluster
+abbrev pub invariant-loop-round : goal.invariant-loop-round
+invariant-loop-round g l = setup_of l.node ≡ lone
