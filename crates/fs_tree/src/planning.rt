@@ -18,7 +18,7 @@ use crate::lookup::{file_at, file_of};
 use crate::making::slots_with;
 use crate::naming::{directory_failure, is_dots, name_failure, number_named};
 use crate::plan::{Decision, Plan, Replaced};
-use crate::removing::{is_directory, is_directory_at};
+use crate::removing::{has_other_names, is_directory, is_directory_at};
 use crate::removing_directories::has_names;
 use crate::status::{ACCES, FBIG, ISDIR, NOENT, NOSPC, NOTDIR, NOTEMPTY, STALE};
 use fs_rules::{Content, Cred, File, Handle, PlainTree, SEARCH, WRITE, number_at};
@@ -53,7 +53,13 @@ pub(crate) fn decided(
     }
     let plan = plan(tree, a, b, to_dir, source, replaced);
     let is_spent = is_any_spent(tree, from_dir, to_dir, source, replaced);
-    match growth_failure(tree, is_spent, plan.links, to_dir, slots_with(&to_dir.content, to_name)) {
+    match growth_failure(
+        tree,
+        is_spent,
+        plan.links,
+        to_dir,
+        slots_with(&to_dir.content, to_name),
+    ) {
         Some(status) => Decision::Refused(status),
         None => Decision::Moves(plan),
     }
@@ -249,7 +255,7 @@ fn replaced_at(tree: &PlainTree, replaced: Option<u32>) -> Replaced
 fn fate_of(number: u32, file: &File) -> Replaced
     ensures { result ≡ fate_of number file.now }
 {
-    if is_directory(&file.content) || file.links <= 1 {
+    if is_directory(&file.content) || !has_other_names(file) {
         Replaced::IsFreed(number)
     } else {
         Replaced::LosesLink(number)

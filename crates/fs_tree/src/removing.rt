@@ -1,4 +1,4 @@
-ghost use Rattle.std.specs.Prelude.{◌≡◌, ◌^◌, ◌-◌, ◌<◌, ◌==◌, ℕ, None, Some, IfOk, IfErr, OnErr, false, [], ◌∷◌, OnOk};
+ghost use Rattle.std.specs.Prelude.{◌≡◌, ◌^◌, ◌-◌, ◌<◌, ◌==◌, ℕ, None, Some, IfOk, IfErr, OnErr, false, [], ◌∷◌, nat_lt, OnOk};
 ghost use Rattle.std.specs.FinMap as map;
 ghost use Rattle.nfs_proto.specs.declared.call.Call.TheVariants.{Remove};
 ghost use Rattle.nfs_proto.specs.declared.stamp.Stamp.{Stamp as AStamp};
@@ -108,6 +108,13 @@ pub(crate) fn is_directory(content: &Content) -> bool
     matches!(content, Content::Directory { .. })
 }
 
+/// Whether a file, which is no directory, has more than one name.
+pub(crate) fn has_other_names(file: &File) -> bool
+    ensures { result ≡ nat_lt 1 file.now.links }
+{
+    file.links > 1
+}
+
 // Takes a name of a file from a directory; where it was the last, the file is freed. On [`NoMemory`] the
 // tree is as before.
 fn take_link_of(
@@ -126,7 +133,7 @@ fn take_link_of(
     let Some(linked) = tree.files.get(file) else {
         return Ok(());
     };
-    if linked.links > 1 {
+    if has_other_names(linked) {
         take_one(alloc, tree, number, name, file, now);
         return Ok(());
     }

@@ -56,7 +56,14 @@ pub(crate) fn take_last(
 }
 
 /// Takes a name, and so many links, from the directory with a number. It takes no memory.
-pub(crate) fn take_from(alloc: Global, tree: &mut PlainTree, number: u32, name: &[u8], links: u32, now: Stamp)
+pub(crate) fn take_from(
+    alloc: Global,
+    tree: &mut PlainTree,
+    number: u32,
+    name: &[u8],
+    links: u32,
+    now: Stamp,
+)
     requires { (d : AFile) × (map.get tree.old.files number ≡ Some d) × HasRoom d × CanLose links d }
     ensures { (d : AFile) → map.get tree.old.files number ≡ Some d → tree.new ≡ record tree.old { files = map.insert tree.old.files number (changed_at now (unlinked links (without_name now name.now d))) } }
 {

@@ -66,12 +66,7 @@ impl Request {
     }
 
     // What a call of the file system asks for: some do nothing.
-    fn called(
-        alloc: Global,
-        xid: u32,
-        call: Call,
-        cred: Cred,
-    ) -> Result<Request, NoMemory>
+    fn called(alloc: Global, xid: u32, call: Call, cred: Cred) -> Result<Request, NoMemory>
         requires { IsFit call }
         ensures exact { IfOk result (λ request. request ≡ called xid call cred) }
         ensures sized { IfOk result IsSized }
