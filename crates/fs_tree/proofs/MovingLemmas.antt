@@ -24,8 +24,8 @@ use Rattle.fs_rules.specs.Respond.{Responded, answer_of, decided}
 use Rattle.fs_tree.specs.declared.response.Response.{Response}
 use Rattle.fs_tree.specs.declared.response.Change.{Change}
 use Rattle.fs_tree.specs.declared.plan.Plan.{Plan}
-use Rattle.fs_tree.specs.declared.plan.Replaced.{Replaced}
-use Rattle.fs_tree.specs.declared.plan.Replaced.TheVariants.{Nothing, LosesLink, IsFreed}
+use Rattle.fs_tree.specs.declared.replaced.Replaced.{Replaced}
+use Rattle.fs_tree.specs.declared.replaced.Replaced.TheVariants.{Nothing, LosesLink, IsFreed}
 use Rattle.fs_tree.specs.Makes.{taking}
 use Rattle.fs_tree.specs.Meets.{Meets}
 use Rattle.fs_tree.specs.Moving.{exchanged, moved_edits, CanMove, CanReplace}

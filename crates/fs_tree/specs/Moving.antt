@@ -23,10 +23,10 @@ use Rattle.fs_rules.specs.Making.{renamed}
 use Rattle.fs_rules.specs.Names.{Move, is_same, moves_directory, replaces, one_where, received, directory_edits, replaced_edits, move_edits, with_parent, leads_to, unlinked}
 use Rattle.fs_rules.specs.Respond.{decided, respond}
 use Rattle.fs_tree.specs.declared.plan.Plan.{Plan}
-use Rattle.fs_tree.specs.declared.plan.Replaced.{Replaced}
-use Rattle.fs_tree.specs.declared.plan.Replaced.TheVariants.{Nothing, LosesLink, IsFreed}
-use Rattle.fs_tree.specs.declared.plan.Decision.{Decision}
-use Rattle.fs_tree.specs.declared.plan.Decision.TheVariants.{Refused, Same, Moves}
+use Rattle.fs_tree.specs.declared.replaced.Replaced.{Replaced}
+use Rattle.fs_tree.specs.declared.replaced.Replaced.TheVariants.{Nothing, LosesLink, IsFreed}
+use Rattle.fs_tree.specs.declared.decision.Decision.{Decision}
+use Rattle.fs_tree.specs.declared.decision.Decision.TheVariants.{Refused, Same, Moves}
 use Rattle.fs_tree.specs.Steps.{refused}
 use Rattle.fs_tree.specs.Taking.{HasRoom, CanLose}
 

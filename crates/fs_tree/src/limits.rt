@@ -1,11 +1,17 @@
-ghost use Rattle.std.specs.Prelude.{◌≡◌, ◌^◌, ◌-◌, ◌<◌, ◌==◌, Some, false};
+ghost use Rattle.std.specs.Prelude.{◌≡◌, ◌^◌, ◌-◌, ◌<◌, ◌≤◌, ◌==◌, nat_lt, Some, false, IfNone};
 ghost use Rattle.std.specs.FinMap as map;
 ghost use Rattle.fs_rules.specs.declared.file.File.{File as AFile};
 ghost use Rattle.fs_rules.specs.Good.{IsGood};
+ghost use Rattle.fs_rules.specs.File.{used};
+ghost use Rattle.fs_rules.specs.Numbers.{free_blocks};
+ghost use Rattle.fs_tree.specs.Makes.{grown_limits, used_by};
 ghost use Rattle.fs_tree.specs.Moving.{is_spent_at};
 
 use crate::lookup::file_at;
-use fs_rules::PlainTree;
+use crate::making::used_by;
+use crate::space::free_blocks;
+use crate::status::{FBIG, NOSPC};
+use fs_rules::{File, PlainTree};
 
 /// The most data of a READ or a WRITE, in bytes (RFC 1094, section 2.3.1).
 pub(crate) const MAX_DATA_BYTES: u32 = 8_192;
@@ -35,4 +41,35 @@ pub(crate) fn is_last(change: u64) -> bool
     ensures rises { result ≡ false → change < 2 ^ 64 - 1 }
 {
     change == u64::MAX
+}
+
+/// Which limit forbids that a directory gets so many links and slots, where a change number that would rise
+/// may have its last value.
+pub(crate) fn growth_failure(
+    tree: &PlainTree,
+    is_spent: bool,
+    links: u32,
+    dir: &File,
+    slots: usize,
+) -> Option<u32>
+    requires { IsGood tree.now }
+    ensures exact { result ≡ grown_limits tree.now is_spent links dir.now slots }
+    ensures rises { IfNone result (is_spent ≡ false) }
+{
+    if is_spent {
+        return Some(FBIG);
+    }
+    if links > MAX_LINKS || slots > MAX_SLOTS || is_full(tree, dir, slots) {
+        return Some(NOSPC);
+    }
+    None
+}
+
+/// Whether there are too few free blocks for a directory with so many slots.
+pub(crate) fn is_full(tree: &PlainTree, dir: &File, slots: usize) -> bool
+    requires good { IsGood tree.now }
+    requires few { slots ≤ 7650 }
+    ensures { result ≡ nat_lt (free_blocks tree.now) (used_by slots - used dir.now.content) }
+{
+    (free_blocks(tree) as usize) < used_by(slots).saturating_sub(dir.content.used())
 }

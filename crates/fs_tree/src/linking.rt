@@ -1,25 +1,21 @@
-ghost use Rattle.std.specs.Prelude.{◌≡◌, ◌+◌, ◌-◌, ◌/◌, ◌^◌, ◌<◌, ◌≤◌, ℕ, length, true, IfOk, IfSome, IfNone, OnErr, nat_lt};
+ghost use Rattle.std.specs.Prelude.{◌≡◌, ◌-◌, ◌^◌, ◌<◌, ℕ, IfOk, IfSome, IfNone, OnErr};
 ghost use Rattle.nfs_proto.specs.declared.call.Call.TheVariants.{Link};
 ghost use Rattle.nfs_proto.specs.declared.stamp.Stamp.{Stamp as AStamp};
 ghost use Rattle.fs_rules.specs.Good.{IsGood};
 ghost use Rattle.fs_rules.specs.Statuses.{first_failure};
-ghost use Rattle.fs_rules.specs.File.{used};
-ghost use Rattle.fs_rules.specs.Numbers.{free_blocks};
 ghost use Rattle.fs_rules.specs.Names.{link_checks};
 ghost use Rattle.fs_rules.specs.Respond.{respond};
 ghost use Rattle.fs_tree.specs.Meets.{Meets};
 ghost use Rattle.fs_tree.specs.Steps.{refused};
 ghost use Rattle.fs_tree.specs.Linking.{link_limits, MayLink};
-ghost use Rattle.fs_tree.specs.Makes.{used_by};
 
 use crate::directory::directory_of;
 use crate::giving::give_one;
-use crate::limits::{MAX_LINKS, MAX_SLOTS, is_last};
+use crate::limits::{MAX_LINKS, MAX_SLOTS, is_full, is_last};
 use crate::lookup::file_of;
-use crate::making::{slots_with, used_by};
+use crate::making::slots_with;
 use crate::naming::{is_dots, number_named};
 use crate::response::{Change, Response};
-use crate::space::free_blocks;
 use crate::status::{ACCES, EXIST, FBIG, NOSPC, PERM, STALE};
 use fs_rules::{Answer, Content, Cred, File, Handle, NoMemory, PlainTree, Stamp, number_at};
 use std::alloc::Global;
@@ -101,13 +97,4 @@ fn limit_failure(tree: &PlainTree, file: &File, dir: &File, slots: usize) -> Opt
         return Some(NOSPC);
     }
     None
-}
-
-/// Whether there are too few free blocks for a directory with so many slots.
-pub(crate) fn is_full(tree: &PlainTree, dir: &File, slots: usize) -> bool
-    requires good { IsGood tree.now }
-    requires few { slots ≤ 7650 }
-    ensures { result ≡ nat_lt (free_blocks tree.now) (used_by slots - used dir.now.content) }
-{
-    (free_blocks(tree) as usize) < used_by(slots).saturating_sub(dir.content.used())
 }

@@ -9,12 +9,13 @@ ghost use Rattle.fs_rules.specs.Edits.{changed_at, edited};
 ghost use Rattle.fs_rules.specs.Making.{renamed};
 ghost use Rattle.fs_rules.specs.Names.{Move, directory_edits, replaced_edits, with_parent};
 ghost use Rattle.fs_tree.specs.Makes.{CanTake};
-ghost use Rattle.fs_tree.specs.declared.plan.Replaced.TheVariants.{IsFreed};
+ghost use Rattle.fs_tree.specs.declared.replaced.Replaced.TheVariants.{IsFreed};
 ghost use Rattle.fs_tree.specs.Moving.{moved_edits, exchanged, CanMove, CanReplace};
 
 use crate::change::{placeholder, put};
 use crate::making::{content_with, put_entry};
-use crate::plan::{Plan, Replaced};
+use crate::plan::Plan;
+use crate::replaced::Replaced;
 use crate::taking::{emptied, keep, take_from, take_link};
 use fs_rules::{Bytes, Content, Entry, File, NoMemory, PlainTree, Stamp};
 use std::alloc::Global;

@@ -1,4 +1,4 @@
-ghost use Rattle.std.specs.Prelude.{◌≡◌, ◌-◌, ◌^◌, ◌<◌, ◌≤◌, ℕ, None, Some, IfOk, IfErr, IfNone, OnOk, false, ◌==◌, not};
+ghost use Rattle.std.specs.Prelude.{◌≡◌, ◌-◌, ◌^◌, ◌<◌, ◌≤◌, ℕ, None, Some, IfOk, IfErr, OnOk, false, ◌==◌, not};
 ghost use Rattle.std.specs.FinMap as map;
 ghost use Rattle.nfs_proto.specs.declared.call.Call.TheVariants.{Rename};
 ghost use Rattle.fs_rules.specs.declared.file.File.{File as AFile};
@@ -8,19 +8,19 @@ ghost use Rattle.fs_rules.specs.File.{slots_of, is_directory};
 ghost use Rattle.fs_rules.specs.Slots.{file_named, is_in_use};
 ghost use Rattle.fs_rules.specs.Statuses.{first_failure, fails_where, acces, notempty};
 ghost use Rattle.fs_rules.specs.Arguments.{file_of, argument_checks};
-ghost use Rattle.fs_tree.specs.Makes.{grown_limits};
 ghost use Rattle.fs_tree.specs.Moving.{pair_row, source_row, replaced_is, over_row, kind_check, move_check, goes_across, fate_of, replaced_at, plan_of, spent_by, CanRise, Decides};
 
 use crate::chain::{chain_failure, is_at};
-use crate::limits::{MAX_LINKS, MAX_SLOTS, is_last, is_spent};
-use crate::linking::is_full;
+use crate::decision::Decision;
+use crate::limits::{growth_failure, is_last, is_spent};
 use crate::lookup::{file_at, file_of};
 use crate::making::slots_with;
 use crate::naming::{directory_failure, is_dots, name_failure, number_named};
-use crate::plan::{Decision, Plan, Replaced};
+use crate::plan::Plan;
 use crate::removing::{has_other_names, is_directory, is_directory_at};
 use crate::removing_directories::has_names;
-use crate::status::{ACCES, FBIG, ISDIR, NOENT, NOSPC, NOTDIR, NOTEMPTY, STALE};
+use crate::replaced::Replaced;
+use crate::status::{ACCES, ISDIR, NOENT, NOTDIR, NOTEMPTY, STALE};
 use fs_rules::{Content, Cred, File, Handle, PlainTree, SEARCH, WRITE, number_at};
 
 /// What the rules say of a RENAME of a name of one directory to a name of another one, or of the same (RFC
@@ -290,25 +290,4 @@ fn is_replaced_spent(tree: &PlainTree, replaced: Option<u32>) -> bool
         Some(number) => is_spent(tree, number),
         None => false,
     }
-}
-
-// Which limit forbids that a directory gets so many links and slots, where a change number may be spent.
-fn growth_failure(
-    tree: &PlainTree,
-    is_spent: bool,
-    links: u32,
-    dir: &File,
-    slots: usize,
-) -> Option<u32>
-    requires { IsGood tree.now }
-    ensures exact { result ≡ grown_limits tree.now is_spent links dir.now slots }
-    ensures rises { IfNone result (is_spent ≡ false) }
-{
-    if is_spent {
-        return Some(FBIG);
-    }
-    if links > MAX_LINKS || slots > MAX_SLOTS || is_full(tree, dir, slots) {
-        return Some(NOSPC);
-    }
-    None
 }

@@ -3,7 +3,7 @@ use Rattle.std.specs.FinMap.{get}
 use Rattle.fs_rules.specs.declared.plain_tree.PlainTree.{PlainTree}
 use Rattle.fs_rules.specs.Edits.{edit, Changed}
 use Rattle.fs_rules.specs.Names.{unlinked}
-use Rattle.fs_tree.specs.declared.plan.Replaced.TheVariants.{LosesLink}
+use Rattle.fs_tree.specs.declared.replaced.Replaced.TheVariants.{LosesLink}
 use Rattle.fs_tree.specs.Moving.{CanReplace}
 use Rattle.fs_tree.proofs.MovingLemmas.{moved_else, over_link}
 use Rattle.fs_tree.proofs.moving.carry_over.Goals as goal

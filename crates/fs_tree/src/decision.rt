@@ -1,0 +1,12 @@
+use crate::plan::Plan;
+
+/// What the rules say of a RENAME.
+#[derive(Clone, Copy, Debug, PartialEq, Eq)]
+pub(crate) enum Decision {
+    /// It is answered with this status.
+    Refused(u32),
+    /// Both names are those of one file, and nothing changes.
+    Same,
+    /// The plan is carried out.
+    Moves(Plan),
+}
