@@ -106,9 +106,9 @@ fn message(alloc: Global, numbers: &[u32]) -> Result<Vec<u8>, Fail> {
 }
 
 // The reply that a request is told.
-fn told_by(request: &Option<Request>) -> Option<&[u8]> {
+fn told_by(request: &Request) -> Option<&[u8]> {
     match request {
-        Some(Request::Told(reply)) => Some(reply.as_slice()),
+        Request::Told(reply) => Some(reply.as_slice()),
         _ => None,
     }
 }
@@ -160,7 +160,7 @@ fn a_change_has_its_point_before_its_reply(rt: HostRuntime) -> Result<(), Fail> 
 #[test]
 fn requests_are_told_apart(rt: HostRuntime) -> Result<(), Fail> {
     let silent = Request::read(rt.alloc(), b"no call")?;
-    assert!(rt; matches!(silent, Some(Request::Silent)));
+    assert!(rt; matches!(silent, Request::Silent));
     Ok(())
 }
 
