@@ -68,43 +68,6 @@ fn a_record_has_128_bytes(rt: HostRuntime) {
 }
 
 #[test]
-fn there_are_four_kinds(rt: HostRuntime) {
-    for kind in 0..8 {
-        let file = Attrs {
-            kind,
-            parent: 0,
-            names: 0,
-            ..DIRECTORY
-        };
-        round_trip(&rt, file, kind == 1 || kind == 2 || kind == 5);
-    }
-    assert_eq!(rt; with_byte(0, 1), None);
-    assert_eq!(rt; with_byte(3, 3), None);
-}
-
-#[test]
-fn a_mode_has_12_bits(rt: HostRuntime) {
-    let greatest = Attrs {
-        mode: 0o7777,
-        ..DIRECTORY
-    };
-    round_trip(&rt, greatest, true);
-    let greater = Attrs {
-        mode: 0o10000,
-        ..DIRECTORY
-    };
-    round_trip(&rt, greater, false);
-    assert_eq!(rt; with_byte(6, 0x10), None);
-}
-
-#[test]
-fn the_rest_of_a_record_is_zero(rt: HostRuntime) {
-    for at in 84..INODE_BYTES {
-        assert_eq!(rt; with_byte(at, 1), None, "at {at}");
-    }
-}
-
-#[test]
 fn a_free_record_keeps_two_numbers(rt: HostRuntime) {
     let free = Attrs::free(u32::MAX, u64::MAX);
     round_trip(&rt, free, true);
@@ -116,19 +79,6 @@ fn a_free_record_keeps_two_numbers(rt: HostRuntime) {
         block: 0,
     });
     round_trip(&rt, Attrs { first, ..free }, false);
-}
-
-#[test]
-fn only_a_directory_has_a_parent_and_names(rt: HostRuntime) {
-    let file = Attrs {
-        kind: Attrs::REGULAR,
-        parent: 0,
-        names: 0,
-        ..DIRECTORY
-    };
-    round_trip(&rt, file, true);
-    round_trip(&rt, Attrs { parent: 1, ..file }, false);
-    round_trip(&rt, Attrs { names: 1, ..file }, false);
 }
 
 #[test]

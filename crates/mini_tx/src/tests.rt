@@ -61,25 +61,6 @@ fn an_entry_is_spelled_and_read(rt: HostRuntime) -> Result<(), Fail> {
 }
 
 #[test]
-fn an_entry_with_bytes_behind_it_is_refused(rt: HostRuntime) -> Result<(), Fail> {
-    let bytes = [
-        0, 0, 0, 5, 0, 0, 0, 1, 0, 0, 0, 0, 0, 0, 0, 2, 0, 0, 0, 0, 0, 0, 0, 3, 0,
-    ];
-    assert_eq!(rt; read_entry(rt.alloc(), &bytes), Err(EntryFault::Bad));
-    Ok(())
-}
-
-#[test]
-fn an_entry_that_is_not_filled_up_with_zeros_is_refused(rt: HostRuntime) -> Result<(), Fail> {
-    let bytes = [
-        0, 0, 0, 3, 0, 0, 0, 1, 0, 0, 0, 0, 0, 0, 0, 2, 0, 0, 0, 0, 0, 0, 0, 3, 0, 0, 0, 1, 0, 0,
-        0, 4, 0, 0, 0, 1, 9, 0, 0, 1,
-    ];
-    assert_eq!(rt; read_entry(rt.alloc(), &bytes), Err(EntryFault::Bad));
-    Ok(())
-}
-
-#[test]
 fn a_prepared_entry_is_spelled_and_read(rt: HostRuntime) -> Result<(), Fail> {
     let reads = one(rt.alloc(), bytes(rt.alloc(), &[1, 2, 3, 4])?)?;
     let write = WriteAt {
@@ -138,12 +119,6 @@ fn write(alloc: Global, at: u32, length: usize) -> Result<Item, AllocError> {
     })
 }
 
-// How one item is refused, over two memory nodes of 2,000,000 bytes.
-fn alone(alloc: Global, item: Item) -> Result<Option<MiniFault>, NoMemory> {
-    let items = one(alloc, item)?;
-    Ok(Mini::new(alloc, items, 2, 2_000_000).err())
-}
-
 // How two items are refused.
 fn both(alloc: Global, first: Item, second: Item) -> Result<Option<MiniFault>, NoMemory> {
     let mut items = one(alloc, first)?;
@@ -170,43 +145,6 @@ fn a_minitransaction_has_1_to_512_items(rt: HostRuntime) -> Result<(), Fail> {
         refusal_of_reads(alloc, 513)?,
         Some(MiniFault::TooManyItems)
     );
-    Ok(())
-}
-
-#[test]
-fn the_items_have_at_most_1048576_bytes(rt: HostRuntime) -> Result<(), Fail> {
-    let alloc = rt.alloc();
-    assert_eq!(rt; alone(alloc, read(0, 1_048_576))?, None);
-    assert_eq!(rt;
-        alone(alloc, read(0, 1_048_577))?,
-        Some(MiniFault::TooLarge)
-    );
-    assert_eq!(rt;
-        both(alloc, write(alloc, 0, 1)?, read(0, 1_048_576))?,
-        Some(MiniFault::TooLarge)
-    );
-    assert_eq!(rt; alone(alloc, read(0, u32::MAX))?, Some(MiniFault::TooLarge));
-    Ok(())
-}
-
-#[test]
-fn an_item_lies_within_its_memory_node(rt: HostRuntime) -> Result<(), Fail> {
-    let alloc = rt.alloc();
-    let first = Some(MiniFault::OutOfRange { item: 0 });
-    assert_eq!(rt; alone(alloc, read(1_999_990, 10))?, None);
-    assert_eq!(rt; alone(alloc, read(1_999_991, 10))?, first);
-    assert_eq!(rt; alone(alloc, read(u32::MAX, 1))?, first);
-    assert_eq!(rt; alone(alloc, write(alloc, 0, 0)?)?, first);
-    assert_eq!(rt;
-        both(alloc, read(0, 1), read(0, 0))?,
-        Some(MiniFault::OutOfRange { item: 1 })
-    );
-    let elsewhere = Item::Read {
-        memory: 2,
-        at: 0,
-        length: 1,
-    };
-    assert_eq!(rt; alone(alloc, elsewhere)?, first);
     Ok(())
 }
 
