@@ -281,7 +281,7 @@ none_picked t call cred now start pick other some =
 
 -- a handle has 32 bytes
 handle_whole : (number generation : ℕ) → length (handle number generation) ≡ 32
-unfolding handle
+unfolding spelled handle_words
 handle_whole number generation = refl
 
 -- of something that there may be

@@ -10,6 +10,10 @@
 //! - `standard_input`, `standard_output`: the streams of the process.
 #![tactic(auto)]
 
+ghost use Rattle.std.specs.Prelude.{◌≡◌};
+ghost use Rattle.std.specs.Process.{exit_status};
+ghost use Rattle.sfs.specs.Status.{code_of};
+
 mod ending;
 mod events;
 mod found;
@@ -42,8 +46,15 @@ use std::process::ExitCode;
 
 fn main(rt: HostRuntime) -> ExitCode {
     let status = run_words(&rt);
+    exit_code(&rt, status)
+}
+
+// How the process ends with this status: its number, and its words on standard error but for Done. Where
+// standard error fails too, the exit status is all that is left to tell.
+fn exit_code<R: Eprint>(rt: &R, status: Status) -> ExitCode
+    ensures { exit_status result ≡ code_of status }
+{
     if status != Status::Done {
-        // Where standard error fails too, the exit status is all that is left to tell.
         let _ = eprintln!(rt; "sfs: {status}");
     }
     ExitCode::from(status.code())
