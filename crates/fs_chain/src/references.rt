@@ -4,12 +4,9 @@ ghost use Rattle.fs_layout.specs.References.{IsReference};
 ghost use Rattle.fs_chain.specs.ReferenceLists.{SpellReferences};
 
 use crate::spelling::{REFERENCE_BYTES, are_references, reference_of};
-use fs_layout::{Reference, write_words};
+use fs_layout::{REFERENCES_PER_CHAIN, Reference, write_words};
 use std::fmt;
 use std::marker::Model;
-
-/// The references of a chaining block.
-pub const REFERENCES_PER_CHAIN: usize = 510;
 
 /// The bytes of the references of a chaining block.
 const REFERENCES_BYTES: usize = REFERENCE_BYTES * REFERENCES_PER_CHAIN;

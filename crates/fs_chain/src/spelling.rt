@@ -4,8 +4,7 @@ ghost use Rattle.fs_layout.specs.Words.{AreWords, spelled};
 ghost use Rattle.fs_layout.specs.References.{reference_words};
 ghost use Rattle.fs_chain.specs.ReferenceLists.{SpellReferences, IsSpelledReference, references_in};
 
-use crate::references::REFERENCES_PER_CHAIN;
-use fs_layout::{NotAReference, Reference, WORD_BYTES, read_words};
+use fs_layout::{NotAReference, REFERENCES_PER_CHAIN, Reference, WORD_BYTES, read_words};
 
 /// The words of a reference.
 const REFERENCE_WORDS: usize = 2;

@@ -6,12 +6,9 @@ ghost use Rattle.fs_dir.specs.Slots.{AreSlots, FitsSlot, IsSlot, SpellsSlots, sl
 
 use crate::slot::{SLOT_BYTES, Slot, Slots};
 use crate::slot_fault::SlotFault;
-use fs_layout::{BLOCK_BYTES, are_zeros};
+use fs_layout::{BLOCK_BYTES, SLOTS_PER_BLOCK, are_zeros};
 use sfs_base::Seq;
 use std::alloc::Global;
-
-/// The slots of a block.
-pub const SLOTS_PER_BLOCK: usize = 15;
 
 /// The bytes of the slots of a block.
 const SLOTS_BYTES: usize = SLOT_BYTES * SLOTS_PER_BLOCK;

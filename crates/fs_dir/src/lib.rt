@@ -13,12 +13,12 @@ mod search;
 mod slot;
 mod slot_fault;
 
-pub use block::{SLOTS_PER_BLOCK, are_slots, read_slots, write_slots};
-pub use fs_layout::BLOCK_BYTES;
+pub use block::{are_slots, read_slots, write_slots};
+pub use fs_layout::{BLOCK_BYTES, MAX_NAME_BYTES, SLOTS_PER_BLOCK};
 pub use laws::slots_have_one_value;
 pub use search::{find, lowest_empty};
 pub use sfs_base::{Bytes, NoMemory, Seq};
-pub use slot::{MAX_NAME_BYTES, SLOT_BYTES, Slot, Slots};
+pub use slot::{SLOT_BYTES, Slot, Slots};
 pub use slot_fault::SlotFault;
 
 #[cfg(test)]

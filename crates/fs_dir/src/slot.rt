@@ -1,12 +1,9 @@
 ghost use Rattle.std.specs.Prelude.{◌≡◌, ◌≤◌, ◌↔◌, IsTrue, length, IfSome, IfNone, IfOk, IfErr};
 
 use crate::slot_fault::SlotFault;
-use fs_layout::{WORD_BYTES, are_zeros, read_words, write_words};
+use fs_layout::{MAX_NAME_BYTES, WORD_BYTES, are_zeros, read_words, write_words};
 use sfs_base::{Bytes, Seq};
 use std::alloc::Global;
-
-/// The greatest length of a name (RFC 1094, section 2.3.7).
-pub const MAX_NAME_BYTES: usize = 255;
 
 /// The words of a slot before its name: the number of the file, and the length of the name.
 const HEAD_WORDS: usize = 2;

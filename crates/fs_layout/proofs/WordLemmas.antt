@@ -1,5 +1,5 @@
 -- Words and the bytes that spell them.
-use Rattle.std.proofs.Common.{◌≡◌, ℕ, zero, suc, ◌+◌, ◌*◌, ◌^◌, ◌<◌, ◌≤◌, List, [], ◌∷◌, ◌++◌, length, get_or, take, drop, refl, sym, ap, ◌∙◌, append_assoc, arith, inl, inr}
+use Rattle.std.proofs.Common.{◌≡◌, ℕ, zero, suc, ◌+◌, ◌*◌, ◌^◌, ◌<◌, ◌≤◌, List, [], ◌∷◌, ◌++◌, length, get_or, take, drop, refl, sym, ap, ◌∙◌, append_assoc, arith, inl, inr, lit<}
 use Rattle.std.specs.Prelude.{slice_set, replicate}
 use Rattle.std.specs.Int.{w32, to_be_bytes, from_be_bytes}
 use Rattle.std.proofs.lemmas.List.{take_at, drop_at, take-append-drop, take-take, drop-take, take_more, take_more_set, length-take, length-append, length-replicate, get_or-drop, get_or-replicate, get_or_past}
@@ -9,6 +9,7 @@ use Rattle.std.proofs.lemmas.Nat.{be_bytes_4, from_be_bytes-to_be_bytes_4}
 use borrow.Rule.Slice.PartMut.{put_mid}
 use Rattle.sfs_base.specs.Reading.{IsBytes}
 use Rattle.sfs_base.proofs.ReadingLemmas.{IsBytes-take, IsBytes-drop}
+use Rattle.sfs_xdr.specs.Items as items
 use Rattle.fs_layout.specs.Words.{AreWords, spelled}
 
 -- the words behind the first
@@ -108,3 +109,21 @@ AreWords-set (x ∷ words) zero w fits below zero = below
 AreWords-set (x ∷ words) zero w fits below (suc k) = fits (suc k)
 AreWords-set (x ∷ words) (suc i) w fits below zero = fits 0
 AreWords-set (x ∷ words) (suc i) w fits below (suc k) = AreWords-set words i w (AreWords-tail x words fits) below k
+
+-- words are spelled as the numbers of XDR
+spelled_words : (ns : List ℕ) → spelled ns ≡ items.words ns
+unfolding spelled
+spelled_words [] = refl
+spelled_words (n ∷ ns) = ap (λ (r : List ℕ). to_be_bytes w32 n ++ r) (spelled_words ns)
+
+words_all : (ns : List ℕ) → AreWords ns → items.AreWords ns
+words_all [] fits = tt
+words_all (n ∷ ns) fits = (fits 0, words_all ns (AreWords-tail n ns fits))
+
+all_words : (ns : List ℕ) → items.AreWords ns → AreWords ns
+all_words [] fits i = lit< tt
+all_words (n ∷ ns) fits zero = fits.0
+all_words (n ∷ ns) fits (suc i) = all_words ns fits.1 i
+
+pub words_items : (ns : List ℕ) → (spelled ns ≡ items.words ns) × (AreWords ns → items.AreWords ns) × (items.AreWords ns → AreWords ns)
+words_items ns = (spelled_words ns, words_all ns, all_words ns)

@@ -20,6 +20,10 @@ record_at index = 2 * 4096 + 128 * index
 abbrev pub block_place : Layout → ℕ → ℕ
 block_place l block = 4096 * (2 + (l.inodes + 31) / 32 + block)
 
+-- the number of the file whose record has this index on this memory node
+abbrev pub number_of : ℕ → ℕ → ℕ
+number_of memory inode = 16384 * memory + inode + 1
+
 -- the number of the file whose record is there
 abbrev pub file_number : InodePlace → ℕ
-file_number p = 16384 * p.memory + p.inode + 1
+file_number p = number_of p.memory p.inode

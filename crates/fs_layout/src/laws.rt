@@ -1,9 +1,14 @@
 //! What is spelled has one value. That a value has one spelling is plain from the definitions.
-ghost use Rattle.fs_layout.specs.Laws.{WordsHaveOneValue, ReferencesHaveOneValue, InodesHaveOneValue, HandlesHaveOneValue, SuperblocksHaveOneValue};
+ghost use Rattle.fs_layout.specs.Laws.{WordsHaveOneValue, WordsAreItems, ReferencesHaveOneValue, InodesHaveOneValue, HandlesHaveOneValue, SuperblocksHaveOneValue};
 
 /// No bytes spell two lists of words.
 pub fn words_have_one_value()
     ensures { WordsHaveOneValue }
+{}
+
+/// Words are the numbers of XDR, and are spelled as these are (RFC 1014, section 3.2).
+pub fn words_are_items()
+    ensures { WordsAreItems }
 {}
 
 /// No two words spell two references.

@@ -14,6 +14,15 @@ pub const MAX_INODES: u32 = 16_384;
 /// The bytes of a block, and of a page of an image.
 pub const BLOCK_BYTES: usize = 4_096;
 
+/// The slots of a block of a directory.
+pub const SLOTS_PER_BLOCK: usize = 15;
+
+/// The references to blocks that one chaining block has.
+pub const REFERENCES_PER_CHAIN: usize = 510;
+
+/// The most bytes of a name in a directory.
+pub const MAX_NAME_BYTES: usize = 255;
+
 /// Where the superblock lies.
 pub const SUPERBLOCK_AT: u32 = 0;
 

@@ -24,11 +24,11 @@ pub use inode::{INODE_BYTES, read_inode, write_inode};
 pub use inode_place::InodePlace;
 pub use laws::{
     handles_have_one_value, inodes_have_one_value, references_have_one_value,
-    superblocks_have_one_value, words_have_one_value,
+    superblocks_have_one_value, words_are_items, words_have_one_value,
 };
 pub use layout::{
     BITMAPS_AT, BLOCK_BYTES, INODE_BITMAP_AT, INODES_AT, Layout, MAX_BLOCKS, MAX_INODES,
-    MAX_MEMORIES, SUPERBLOCK_AT,
+    MAX_MEMORIES, MAX_NAME_BYTES, REFERENCES_PER_CHAIN, SLOTS_PER_BLOCK, SUPERBLOCK_AT,
 };
 pub use reference::{NotAReference, Reference};
 pub use superblock::{Superblock, read_superblock, write_superblock};

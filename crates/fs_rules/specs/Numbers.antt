@@ -2,15 +2,12 @@
 use Rattle.std.specs.Prelude.{◌≡◌, ℕ, ◌+◌, ◌-◌, ◌*◌, ◌%◌, ◌^◌, ◌<◌, nat_lt, Bool, not, ◌&&◌, List, map, find, sum_by, Option, unwrap_or}
 use Rattle.std.specs.List.{flat_map}
 use Rattle.std.specs.FinMap as table
+pub use Rattle.fs_layout.specs.Places.{number_of}
 use Rattle.fs_rules.specs.declared.geometry.Geometry.{Geometry}
 use Rattle.fs_rules.specs.declared.kept.Kept.{Kept}
 use Rattle.fs_rules.specs.declared.plain_tree.PlainTree.{PlainTree}
 use Rattle.fs_rules.specs.Lists.{below}
 use Rattle.fs_rules.specs.File.{used}
-
--- the number of inode i on memory node m
-abbrev pub number_of : ℕ → ℕ → ℕ
-number_of m i = 16384 * m + i + 1
 
 -- a number of this cluster
 pub record IsNumber (g : Geometry) (n : ℕ) : Type 0 where

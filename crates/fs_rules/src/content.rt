@@ -3,16 +3,11 @@ ghost use Rattle.std.specs.FinMap as map;
 ghost use Rattle.fs_rules.specs.File as file;
 
 use crate::entry::Entry;
+use fs_layout::{REFERENCES_PER_CHAIN, SLOTS_PER_BLOCK};
 use sfs_base::{Bytes, Seq, Table};
 
-/// The bytes of a block.
-pub const BLOCK_BYTES: u32 = 4_096;
-
-/// The slots of a block of a directory.
-pub const SLOTS_PER_BLOCK: usize = 15;
-
-/// The references to blocks that one chaining block has.
-pub const REFERENCES_PER_CHAIN: usize = 510;
+/// The bytes of a block, as a size counts them.
+pub const BLOCK_BYTES: u32 = fs_layout::BLOCK_BYTES as u32;
 
 /// The stored blocks of a file, by their index: [`BLOCK_BYTES`] bytes each.
 pub type Blocks = Table<Bytes>;

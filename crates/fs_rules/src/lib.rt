@@ -18,12 +18,13 @@ mod kept;
 mod plain_tree;
 
 pub use access::{READ, SEARCH, SUPERUSER, WRITE, is_of_group, may};
-pub use content::{
-    BLOCK_BYTES, Blocks, Content, REFERENCES_PER_CHAIN, SLOTS_PER_BLOCK, Slots, chains_up_to,
-};
+pub use content::{BLOCK_BYTES, Blocks, Content, Slots, chains_up_to};
 pub use entry::Entry;
 pub use file::File;
-pub use fs_layout::{Attrs, MAX_BLOCKS, MAX_INODES, MAX_MEMORIES, Reference};
+pub use fs_layout::{
+    Attrs, MAX_BLOCKS, MAX_INODES, MAX_MEMORIES, MAX_NAME_BYTES, REFERENCES_PER_CHAIN, Reference,
+    SLOTS_PER_BLOCK,
+};
 pub use geometry::{Geometry, MAX_NODES};
 pub use handle::{handle_of, number_at};
 pub use kept::Kept;

@@ -2,7 +2,7 @@
 use Rattle.std.proofs.Common.{◌≡◌, ℕ, zero, suc, ◌<◌, ◌^◌, Bool, List, ◌++◌, Ok, lit<, refl, sym, ap, subst, ◌∙◌}
 use Rattle.std.specs.List.{AllByRecursion}
 use Rattle.sfs_base.specs.Reading.{IsBytes, IsExact}
-use Rattle.sfs_xdr.specs.Items.{word, boolean}
+use Rattle.sfs_xdr.specs.Items.{AreWords, word, boolean}
 use Rattle.sfs_xdr.specs.Codec.{number_item, boolean_item, counted_of, ◌⟫◌, IsNumber, IsBoolean, IsCounted}
 use Rattle.sfs_xdr.specs.CodecLemmas.{number_exact, boolean_item_exact, counted_exact, counted_written, both_exact, tested_exact, forgetting_exact, behind}
 use Rattle.mini_tx.specs.declared.entry.Entry.{Entry}
@@ -15,7 +15,7 @@ use Rattle.mini_tx.specs.EntryGrammar.{longest, IsId, IsCut, IsRange, IsWrite, I
 use Rattle.mini_tx.specs.EntryReading.{id_item, cut_item, range_item, write_item, vote_item, granted_item, refusal_item, participants_item, ranges_item, writes_item, none_of, single_of, prepared_of, refused_of, decided_of, forgotten_of, cut_of, floor_of, entry_fields}
 use Rattle.mini_tx.specs.EntryLemmas.{id_exact, id_written, cut_exact, cut_written, range_exact, range_written, write_exact, write_written, numbered_exact}
 use Rattle.mini_tx.specs.VoteLemmas.{vote_exact, vote_written}
-use Rattle.mini_tx.specs.Laws.{AreWords, IsTypedRange, IsTypedWrite, EntriesAreExact, EntriesAreWritten}
+use Rattle.mini_tx.specs.Laws.{IsTypedRange, IsTypedWrite, EntriesAreExact, EntriesAreWritten}
 
 -- ---- parts
 

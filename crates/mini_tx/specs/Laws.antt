@@ -2,6 +2,7 @@
 use Rattle.std.specs.Prelude.{◌<◌, ◌^◌, ℕ, List}
 use Rattle.std.specs.List.{AllByRecursion}
 use Rattle.sfs_base.specs.Reading.{IsExact}
+use Rattle.sfs_xdr.specs.Items.{AreWords}
 use Rattle.mini_tx.specs.declared.cut_id.CutId.{CutId}
 use Rattle.mini_tx.specs.declared.entry.Entry.{Entry}
 use Rattle.mini_tx.specs.declared.entry.Entry.TheVariants as entry
@@ -33,9 +34,6 @@ IsTypedVote (vote.Mismatch place kept) = place < 2 ^ 32
 IsTypedVote (vote.Locked holder) = IsTypedId holder
 IsTypedVote (vote.Forced floor) = IsTypedId floor
 IsTypedVote (vote.Held cut) = IsTypedCut cut
-
-abbrev pub AreWords : List ℕ → Type 0
-AreWords numbers = AllByRecursion (λ n. n < 2 ^ 32) numbers
 
 abbrev pub IsTypedEntry : Entry → Type 0
 IsTypedEntry (entry.Single id vote writes) = IsTypedId id × IsTypedVote vote × AllByRecursion IsTypedWrite writes

@@ -3,6 +3,7 @@ use Rattle.std.proofs.Common.{◌≡◌, ℕ, zero, suc, ◌≤◌, Bool, true, 
 use Rattle.std.specs.Prelude.{bytes_eq}
 use Rattle.sfs_xdr.specs.Items.{words}
 use Rattle.sfs_xdr.specs.Codec.{text_item}
+use Rattle.fs_layout.specs.Handles.{handle_words}
 use Rattle.mount_proto.specs.Mount.{root_handle, exported, mounted, with_path, answer_of}
 
 -- these numbers, at most nine
@@ -15,6 +16,7 @@ few : (numbers bytes : List ℕ) → length numbers ≤ 9 → words numbers ≡ 
 few numbers bytes most is = record { numbers = numbers; few = most; spelled = sym is }
 
 few_mounted : (b : Bool) (bytes : List ℕ) → cond b (words (0 ∷ root_handle)) (words (2 ∷ [])) ≡ bytes → AreFew bytes
+unfolding handle_words
 few_mounted true bytes is = few (0 ∷ root_handle) bytes (omega arith) is
 few_mounted false bytes is = few (2 ∷ []) bytes (omega arith) is
 

@@ -2,12 +2,13 @@
 use Rattle.std.specs.Prelude.{ℕ, if◌then◌else◌, List, [], ◌∷◌, bytes_eq, Option, Some, None, slice_get, Result, Ok, Err}
 use Rattle.sfs_xdr.specs.Items.{words}
 use Rattle.sfs_xdr.specs.Codec.{text_item}
+use Rattle.fs_layout.specs.Handles.{handle_words}
 use Rattle.sfs_xdr.specs.declared.arg_fault.ArgFault.{ArgFault}
 use Rattle.sfs_xdr.specs.declared.arg_fault.ArgFault.TheVariants as fault
 
--- the handle of the root: the mark of a handle, its number and generation, and zeros
+-- the words of the handle of the root: file 1 in its first generation
 abbrev pub root_handle : List ℕ
-root_handle = 0x53465331 ∷ 1 ∷ 1 ∷ 0 ∷ 0 ∷ 0 ∷ 0 ∷ 0 ∷ []
+root_handle = handle_words 1 1
 
 -- the one path that is exported: "/"
 abbrev pub exported : List ℕ

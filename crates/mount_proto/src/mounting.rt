@@ -1,10 +1,11 @@
-ghost use Rattle.std.specs.Prelude.{◌≡◌, ℕ, List, [], Ok, Err, IfOk};
+ghost use Rattle.std.specs.Prelude.{◌≡◌, ℕ, List, [], ◌∷◌, Ok, Err, IfOk};
 ghost use Rattle.sfs_xdr.specs.Items.{words};
 ghost use Rattle.sfs_xdr.specs.Codec.{text_item};
 ghost use Rattle.sfs_xdr.specs.declared.arg_fault.ArgFault.{ArgFault as Fault};
 ghost use Rattle.sfs_xdr.specs.declared.arg_fault.ArgFault.TheVariants as fault;
-ghost use Rattle.mount_proto.specs.Mount.{answer_of, mounted, with_path};
+ghost use Rattle.mount_proto.specs.Mount.{answer_of, mounted, root_handle, with_path};
 
+use fs_layout::write_handle;
 use sfs_xdr::{ArgFault, Bytes, Reader, Writer, write_words};
 use std::alloc::Global;
 
@@ -17,8 +18,11 @@ pub const MAX_PATH_BYTES: u32 = 1_024;
 /// The status of a path that is not exported: there is no such file (RFC 1094, appendix A.4).
 const NO_ENTRY: u32 = 2;
 
-/// The status OK, and the handle of the root directory (`docs/FORMATS.md`, "Handles").
-const ROOT: [u32; 9] = [0, 0x5346_5331, 1, 1, 0, 0, 0, 0, 0];
+/// The status of a path that is exported (RFC 1094, appendix A.4).
+const OK: u32 = 0;
+
+/// The number and the generation of the root directory.
+const ROOT: (u32, u32) = (1, 1);
 
 /// The one export: "/", which every client may mount, and nothing behind it.
 const EXPORTS: [u32; 5] = [1, 1, 0x2f00_0000, 0, 0];
@@ -50,10 +54,22 @@ fn mount(alloc: Global, args: &[u8]) -> Result<Bytes, ArgFault>
 {
     let path = read_path(args)?;
     if path == b"/".as_slice() {
-        spelled(alloc, &ROOT)
+        mounted_root(alloc)
     } else {
         spelled(alloc, &[NO_ENTRY])
     }
+}
+
+// OK, and the handle of the root.
+#[tactic(auto, using(crate::proofs::RootLemmas::root_is))]
+fn mounted_root(alloc: Global) -> Result<Bytes, ArgFault>
+    ensures found { IfOk result (λ bytes. bytes ≡ words (0 ∷ root_handle)) }
+    ensures no_memory { (f : Fault) → result ≡ Err f → f ≡ fault.NoMemory }
+{
+    let mut writer = Writer::new(alloc);
+    writer.u32(OK)?;
+    writer.opaque(&write_handle(ROOT.0, ROOT.1))?;
+    Ok(Bytes::from(writer.finish()))
 }
 
 // UMNT: nothing is kept of a mount, so that there is nothing to forget.

@@ -2,6 +2,7 @@
 use Rattle.std.specs.Prelude.{◌≡◌, ◌<◌, ◌≤◌, ◌^◌, ℕ, [], ◌∷◌, length}
 use Rattle.std.specs.List.{AllByRecursion}
 use Rattle.sfs_base.specs.Reading.{IsExact}
+use Rattle.sfs_xdr.specs.Items.{AreWords}
 use Rattle.nfs_proto.specs.declared.answer.Answer.{Answer}
 use Rattle.nfs_proto.specs.declared.answer.Answer.TheVariants as answer
 use Rattle.nfs_proto.specs.declared.call.Call.{Call}
@@ -10,7 +11,7 @@ use Rattle.nfs_proto.specs.declared.dir_entry.DirEntry.{DirEntry}
 use Rattle.nfs_proto.specs.declared.form.Form.{Form}
 use Rattle.nfs_proto.specs.declared.form.Form.TheVariants as form
 use Rattle.nfs_proto.specs.declared.handle.Handle.{Handle}
-use Rattle.nfs_proto.specs.Types.{AreWords, sattr_words, fattr_words}
+use Rattle.nfs_proto.specs.Types.{sattr_words, fattr_words}
 use Rattle.nfs_proto.specs.Arguments.{procedure_of, IsArguments, IsFit, arguments_of, arguments_spelling}
 use Rattle.nfs_proto.specs.Answers.{result_of, IsResult, IsFitAnswer, answer_spelling}
 

@@ -1,7 +1,7 @@
 -- Reading takes the spellings of the types and nothing else, and what is written is one of them.
 use Rattle.std.proofs.Common.{◌≡◌, ℕ, List, length, refl}
 use Rattle.sfs_base.specs.Reading.{IsExact}
-use Rattle.sfs_xdr.specs.Items.{word, words, opaque}
+use Rattle.sfs_xdr.specs.Items.{AreWords, word, words, opaque}
 use Rattle.sfs_xdr.specs.ItemLemmas.{writers_are_in}
 use Rattle.sfs_xdr.specs.Codec.{Reading, both_of, number_item, ◌⟫◌, IsNumber}
 use Rattle.sfs_xdr.specs.CodecLemmas.{number_exact, fixed_exact, both_exact, made_exact, behind}
@@ -9,7 +9,7 @@ use Rattle.nfs_proto.specs.declared.fattr.Fattr.{Fattr}
 use Rattle.nfs_proto.specs.declared.handle.Handle.{Handle}
 use Rattle.nfs_proto.specs.declared.sattr.Sattr.{Sattr}
 use Rattle.nfs_proto.specs.declared.stamp.Stamp.{Stamp}
-use Rattle.nfs_proto.specs.Types.{AreWords, IsHandle, handle_from, handle_item, stamp_words, IsStamp, stamp_from, stamp_item, sattr_words, IsSattr, sattr_from, sattr_item, fattr_words, IsFattr, fattr_from, fattr_item}
+use Rattle.nfs_proto.specs.Types.{IsHandle, handle_from, handle_item, stamp_words, IsStamp, stamp_from, stamp_item, sattr_words, IsSattr, sattr_from, sattr_item, fattr_words, IsFattr, fattr_from, fattr_item}
 
 pub handle_exact : IsExact handle_item IsHandle
 handle_exact = made_exact handle_from (λ h. h.0) _ _ (λ b. refl) (λ h. refl) (fixed_exact 32)

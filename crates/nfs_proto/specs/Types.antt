@@ -1,15 +1,10 @@
 -- The types of the messages (RFC 1094, section 2.3): how they are spelled, and what reading them gives.
-use Rattle.std.specs.Prelude.{◌<◌, ◌^◌, ℕ, List, [], ◌∷◌}
-use Rattle.std.specs.List.{AllByRecursion}
+use Rattle.std.specs.Prelude.{ℕ, List, [], ◌∷◌}
 use Rattle.sfs_xdr.specs.Codec.{Reading, both_of, made_of, number_item, fixed_item, text_item, ◌⟫◌, IsNumber, IsFixed, IsText}
 use Rattle.nfs_proto.specs.declared.fattr.Fattr.{Fattr}
 use Rattle.nfs_proto.specs.declared.handle.Handle.{Handle}
 use Rattle.nfs_proto.specs.declared.sattr.Sattr.{Sattr}
 use Rattle.nfs_proto.specs.declared.stamp.Stamp.{Stamp}
-
--- every number is below 2^32
-abbrev pub AreWords : List ℕ → Type 0
-AreWords numbers = AllByRecursion (λ n. n < 2 ^ 32) numbers
 
 -- a handle: 32 bytes
 abbrev pub IsHandle : Handle → List ℕ → Type 0

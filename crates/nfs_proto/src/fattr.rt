@@ -1,5 +1,5 @@
-ghost use Rattle.sfs_xdr.specs.Items.{words};
-ghost use Rattle.nfs_proto.specs.Types.{fattr_item, fattr_words, IsFattr, AreWords};
+ghost use Rattle.sfs_xdr.specs.Items.{AreWords, words};
+ghost use Rattle.nfs_proto.specs.Types.{fattr_item, fattr_words, IsFattr};
 ghost use Rattle.nfs_proto.specs.TypeLemmas.{fattr_exact, fattr_written};
 
 use crate::stamp::Stamp;

@@ -1,5 +1,5 @@
-ghost use Rattle.sfs_xdr.specs.Items.{words};
-ghost use Rattle.nfs_proto.specs.Types.{sattr_item, sattr_words, IsSattr, AreWords};
+ghost use Rattle.sfs_xdr.specs.Items.{AreWords, words};
+ghost use Rattle.nfs_proto.specs.Types.{sattr_item, sattr_words, IsSattr};
 ghost use Rattle.nfs_proto.specs.TypeLemmas.{sattr_exact, sattr_written};
 
 use crate::stamp::Stamp;

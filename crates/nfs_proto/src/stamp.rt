@@ -1,5 +1,5 @@
-ghost use Rattle.sfs_xdr.specs.Items.{words};
-ghost use Rattle.nfs_proto.specs.Types.{stamp_item, stamp_words, IsStamp, AreWords};
+ghost use Rattle.sfs_xdr.specs.Items.{AreWords, words};
+ghost use Rattle.nfs_proto.specs.Types.{stamp_item, stamp_words, IsStamp};
 ghost use Rattle.nfs_proto.specs.TypeLemmas.{stamp_exact, stamp_written};
 
 use sfs_base::NoMemory;

@@ -6,7 +6,7 @@ use Rattle.std.proofs.lemmas.List.{length-append, append-nil}
 use Rattle.sfs_base.specs.declared.no_memory.NoMemory.{NoMemory}
 use Rattle.sfs_base.specs.Reading.{IsBytes}
 use Rattle.sfs_base.proofs.ReadingLemmas.{IsBytes-append}
-use Rattle.sfs_xdr.specs.Items.{word, words, padding_of, opaque_var}
+use Rattle.sfs_xdr.specs.Items.{AreWords, word, words, padding_of, opaque_var}
 use Rattle.sfs_xdr.specs.Codec.{IsText}
 use Rattle.sfs_xdr.specs.CodecLemmas.{behind, text_written}
 use Rattle.rpc_msg.specs.declared.cred.Cred.{Cred}
@@ -15,7 +15,7 @@ use Rattle.rpc_msg.specs.declared.heard.Heard as heard
 use Rattle.rpc_msg.specs.declared.program.Program.{Program}
 use Rattle.rpc_msg.specs.declared.rpc_call.RpcCall.{RpcCall}
 use Rattle.rpc_msg.specs.Messages.{head_words, head_for, IsAuth, unix_words, nobody, is_nobody, cred_words, nfs, mount, program_of, MayCall, call_spelling}
-use Rattle.rpc_msg.specs.MessageLemmas.{AreWords, head_written, unix_written}
+use Rattle.rpc_msg.specs.MessageLemmas.{head_written, unix_written}
 use Rattle.rpc_msg.specs.Heard.{Outcome, IsGrammar, HeardVerifier, HeardCredential, HeardProgram, AsTheyAre, Heard, called, there, verifier, null, unix, credential, call, begun}
 use Rattle.rpc_msg.specs.Hearing.{as_they_are, heard_of, outcome}
 use Rattle.rpc_msg.specs.Laws.{IsTypedCall}

@@ -3,7 +3,7 @@ use Rattle.std.specs.Prelude.{◌≡◌, ℕ, List, [], ◌∷◌}
 use Rattle.sfs_base.specs.Reading.{IsBytes}
 use Rattle.rpc_msg.specs.declared.rpc_call.RpcCall.{RpcCall}
 use Rattle.rpc_msg.specs.Messages.{program_of, MayCall, call_spelling}
-use Rattle.rpc_msg.specs.MessageLemmas.{AreWords}
+use Rattle.sfs_xdr.specs.Items.{AreWords}
 use Rattle.rpc_msg.specs.Heard.{Called, Outcome, Call}
 use Rattle.rpc_msg.specs.Hearing.{as_they_are, heard_of}
 

@@ -1,17 +1,12 @@
 -- Reading takes the spellings of a message's parts and nothing else, and what is written is one of them.
 use Rattle.std.proofs.Common.{◌≡◌, ℕ, ◌^◌, ◌<◌, ◌≤◌, List, [], ◌∷◌, length, lit<, refl, subst, arith}
-use Rattle.std.specs.List.{AllByRecursion}
 use Rattle.sfs_base.specs.Reading.{IsExact}
-use Rattle.sfs_xdr.specs.Items.{word, words}
+use Rattle.sfs_xdr.specs.Items.{AreWords, word, words}
 use Rattle.sfs_xdr.specs.Codec.{number_item, text_item, counted_of, ◌⟫◌, IsNumber, IsText, IsCounted}
 use Rattle.sfs_xdr.specs.CodecLemmas.{number_exact, text_exact, both_exact, made_exact, counted_exact, forgetting_exact, same_exact, text_written, counted_written, behind, no_dues}
 use Rattle.rpc_msg.specs.declared.cred.Cred.{Cred}
 use Rattle.rpc_msg.specs.declared.head.Head.{Head}
 use Rattle.rpc_msg.specs.Messages.{head_words, IsHead, head_from, head_of, IsUnixBody, cred_from, unix_of, unix_words}
-
--- every number is below 2^32
-abbrev pub AreWords : List ℕ → Type 0
-AreWords numbers = AllByRecursion (λ n. n < 2 ^ 32) numbers
 
 abbrev parts : Head → ℕ × (ℕ × (ℕ × (ℕ × (ℕ × ℕ))))
 parts h = (h.xid, (h.kind, (h.rpc_version, (h.program, (h.version, h.procedure)))))

@@ -1,7 +1,7 @@
 ghost use Rattle.std.specs.Prelude.{◌<◌, ◌^◌};
-ghost use Rattle.sfs_xdr.specs.Items.{words};
+ghost use Rattle.sfs_xdr.specs.Items.{AreWords, words};
 ghost use Rattle.rpc_msg.specs.Messages.{head_words, head_of, IsHead};
-ghost use Rattle.rpc_msg.specs.MessageLemmas.{AreWords, head_exact, head_written};
+ghost use Rattle.rpc_msg.specs.MessageLemmas.{head_exact, head_written};
 
 use sfs_xdr::{Codec, ItemFault, NoMemory, Reader, Writer, write_words};
 use std::alloc::Global;

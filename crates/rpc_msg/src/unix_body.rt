@@ -1,9 +1,9 @@
 ghost use Rattle.std.specs.Prelude.{◌≡◌, ◌<◌, ◌≤◌, ◌^◌, [], ◌∷◌, length, Ok, Err, IfOk};
 ghost use Rattle.sfs_xdr.specs.Codec.{text_item};
 ghost use Rattle.sfs_xdr.specs.declared.item_fault.ItemFault.TheVariants.{Malformed as malformed};
-ghost use Rattle.sfs_xdr.specs.Items.{words};
+ghost use Rattle.sfs_xdr.specs.Items.{AreWords, words};
 ghost use Rattle.rpc_msg.specs.Messages.{unix_of, unix_words, IsUnixBody};
-ghost use Rattle.rpc_msg.specs.MessageLemmas.{AreWords, unix_exact, unix_written};
+ghost use Rattle.rpc_msg.specs.MessageLemmas.{unix_exact, unix_written};
 
 use crate::cred::{Cred, MAX_GIDS};
 use sfs_xdr::{Codec, Counted, ItemFault, NoMemory, Reader, Writer, write_words};

@@ -1,11 +1,15 @@
 -- How XDR spells its items (RFC 1014, section 3).
-use Rattle.std.specs.Prelude.{◌≡◌, ℕ, ◌-◌, ◌%◌, Bool, true, false, List, ◌++◌, length, replicate}
-use Rattle.std.specs.List.{flat_map}
+use Rattle.std.specs.Prelude.{◌≡◌, ℕ, ◌-◌, ◌%◌, ◌^◌, ◌<◌, Bool, true, false, List, ◌++◌, length, replicate}
+use Rattle.std.specs.List.{flat_map, AllByRecursion}
 use Rattle.std.specs.Int.{w32, to_be_bytes}
 
 -- a number below 2^32: four bytes, the highest first
 abbrev pub word : ℕ → List ℕ
 word n = to_be_bytes w32 n
+
+-- every number is below 2^32
+abbrev pub AreWords : List ℕ → Type 0
+AreWords numbers = AllByRecursion (λ n. n < 2 ^ 32) numbers
 
 -- numbers, one behind the other
 abbrev pub words : List ℕ → List ℕ
