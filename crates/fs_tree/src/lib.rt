@@ -48,8 +48,3 @@ pub use fs_rules::{
 pub use naming::MAX_NAME_BYTES;
 pub use response::{Change, Response};
 pub use tree::Tree;
-
-#[cfg(test)]
-mod names_tests;
-#[cfg(test)]
-mod tests;
