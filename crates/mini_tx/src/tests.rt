@@ -233,16 +233,6 @@ fn what_matches_is_read_and_written(rt: HostRuntime) -> Result<(), Fail> {
 }
 
 #[test]
-fn what_does_not_match_changes_nothing(rt: HostRuntime) -> Result<(), Fail> {
-    let alloc = rt.alloc();
-    let mut flat = [bytes(alloc, &[1, 2, 3, 4])?, bytes(alloc, &[5, 6, 7, 8])?];
-    let mini = sample(alloc, 7).map_err(|_| NoMemory)?;
-    assert_eq!(rt; perform(alloc, &mini, &mut flat)?, None);
-    assert_eq!(rt; flat[1].as_slice(), [5, 6, 7, 8].as_slice());
-    Ok(())
-}
-
-#[test]
 fn a_fault_tells_its_cause(rt: HostRuntime) -> Result<(), Fail> {
     let overlap = MiniFault::Overlap { item: 3 };
     assert_eq!(rt;

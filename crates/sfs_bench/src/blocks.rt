@@ -1,6 +1,7 @@
 //! Searches in a bitmap, and reading and writing a chaining block, beside copies of the bytes that these
 //! calls look at. Each round changes a byte, so that no round can stand for another.
 
+use crate::refused::refused;
 use fs_bitmap::{count_free, lowest_free};
 use fs_chain::{BLOCK_BYTES, ChainBlock, REFERENCES_PER_CHAIN, Reference, read_chain, write_chain};
 use std::io;
@@ -95,7 +96,7 @@ fn time_read_chain<R: Print + Clock>(rt: &R) -> io::Result<()> {
     let mut sum = 0u64;
     let start = Instant::now(rt)?;
     for round in 0..ROUNDS {
-        sum = sum.wrapping_add(read(&block, round));
+        sum = sum.wrapping_add(read(&block, round).ok_or_else(refused)?);
         change(&mut block, round);
     }
     report(rt, "read_chain", start, sum)
@@ -104,13 +105,11 @@ fn time_read_chain<R: Print + Clock>(rt: &R) -> io::Result<()> {
 fn time_write_chain<R: Print + Clock>(rt: &R) -> io::Result<()> {
     let mut block = used_chain();
     let mut sum = 0u64;
-    let mut chain = read_chain(&block);
+    let mut chain = read_chain(&block).ok_or_else(refused)?;
     let start = Instant::now(rt)?;
     for round in 0..ROUNDS {
-        if let Some(chain) = &mut chain {
-            chain.file = round;
-            write(chain, &mut block);
-        }
+        chain.file = round;
+        write(&chain, &mut block)?;
         sum = sum.wrapping_add(u64::from(block[(round % 4_096) as usize]));
     }
     report(rt, "write_chain", start, sum)
@@ -158,10 +157,10 @@ fn copy_block(from: &[u8; BLOCK_BYTES], into: &mut [u8; BLOCK_BYTES]) {
 
 // The whole block is read, and lies where it is looked at.
 #[inline(never)]
-fn read(block: &[u8; BLOCK_BYTES], round: u32) -> u64 {
+fn read(block: &[u8; BLOCK_BYTES], round: u32) -> Option<u64> {
     match read_chain(block) {
-        Some(chain) => looked_at(&chain, round),
-        None => 0,
+        Some(chain) => Some(looked_at(&chain, round)),
+        None => None,
     }
 }
 
@@ -176,8 +175,10 @@ fn looked_at(chain: &ChainBlock, round: u32) -> u64 {
 
 // With the test that it can be written.
 #[inline(never)]
-fn write(chain: &ChainBlock, block: &mut [u8; BLOCK_BYTES]) {
-    if chain.is_chain() {
-        write_chain(chain, block);
+fn write(chain: &ChainBlock, block: &mut [u8; BLOCK_BYTES]) -> io::Result<()> {
+    if !chain.is_chain() {
+        return Err(refused());
     }
+    write_chain(chain, block);
+    Ok(())
 }

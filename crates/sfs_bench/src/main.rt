@@ -1,6 +1,6 @@
 //! Times calls of the libraries. The first word names the topic, and each call gets a line with its name,
 //! the nanoseconds that all rounds took, the number of rounds, and a sum that keeps them from being left
-//! out. Without a word it is silent.
+//! out. A call that is refused, or a word that is no topic, ends it with a fault. Without a word it is silent.
 //!
 //! - [`blocks`]: the records on the blocks of a memory node.
 //! - [`log_calls`]: appends to a log on a disk in memory, and loads of it.
@@ -12,6 +12,7 @@
 mod blocks;
 mod log_calls;
 mod minis;
+mod refused;
 mod vote;
 mod wire;
 
@@ -25,6 +26,7 @@ fn main(rt: HostRuntime) -> io::Result<()> {
         Some(word) if word.as_str() == "minis" => minis::run(&rt),
         Some(word) if word.as_str() == "vote" => vote::run(&rt),
         Some(word) if word.as_str() == "wire" => wire::run(&rt),
-        _ => Ok(()),
+        Some(_) => Err(io::Error::other("there is no such topic")),
+        None => Ok(()),
     }
 }

@@ -1,6 +1,7 @@
 //! Making a minitransaction of the most items and bytes that there may be, and locking ranges in a table
 //! that holds many, beside a copy of as many bytes.
 
+use crate::refused::refused;
 use lock_table::{Locks, Range};
 use mini_tx::{Bytes, Item, Items, MAX_ITEM_BYTES, MAX_ITEMS, Mini, TxId};
 use std::rt::Clock;
@@ -61,8 +62,9 @@ fn time_mini_new<R: Print + Clock + AllocGlobal>(rt: &R) -> io::Result<()> {
         let start = Instant::now(rt)?;
         let mini = Mini::new(rt.alloc(), items, MEMORIES, u32::MAX);
         took = took.saturating_add(start.elapsed(rt)?);
-        if let Ok(mini) = mini {
-            sum = sum.wrapping_add(mini.participants().len() as u64);
+        match mini {
+            Ok(mini) => sum = sum.wrapping_add(mini.participants().len() as u64),
+            Err(_) => return Err(refused()),
         }
     }
     report(rt, "mini_new", took, sum)
@@ -92,11 +94,16 @@ fn time_try_lock<R: Print + Clock + AllocGlobal>(rt: &R) -> io::Result<()> {
     for round in 0..ROUNDS {
         locks.release(id_of(0));
         locks.release(id_of(1));
-        let _held = locks.try_lock(id_of(0), &held);
+        if locks.try_lock(id_of(0), &held).is_err() {
+            return Err(refused());
+        }
         let start = Instant::now(rt)?;
         let answer = locks.try_lock(id_of(1), &asked);
         took = took.saturating_add(start.elapsed(rt)?);
-        sum = sum.wrapping_add(u64::from(answer.is_ok()) + u64::from(round));
+        if answer.is_err() {
+            return Err(refused());
+        }
+        sum = sum.wrapping_add(u64::from(round));
     }
     report(rt, "try_lock", took, sum)
 }

@@ -2,6 +2,7 @@
 
 ghost use Rattle.std.specs.Prelude.{◌≡◌, Ok, IfOk};
 
+use crate::refused::refused;
 use nfs_proto::{Answer, Call, Fattr, Handle, Stamp, read_args, write_answer, write_args};
 use rpc_msg::{Bytes, Cred, Heard, NFS, NoMemory, RpcCall, read_call, write_call};
 use std::alloc::{AllocError, Global};
@@ -102,8 +103,9 @@ fn time_read_args<R: Print + Clock + AllocGlobal>(rt: &R, args: &[u8]) -> io::Re
     let mut sum = 0u64;
     let start = Instant::now(rt)?;
     for _ in 0..ROUNDS {
-        if let Ok(Call::Write { bytes, .. }) = read_args(rt.alloc(), WRITE, args) {
-            sum = sum.wrapping_add(bytes.len() as u64);
+        match read_args(rt.alloc(), WRITE, args) {
+            Ok(Call::Write { bytes, .. }) => sum = sum.wrapping_add(bytes.len() as u64),
+            _ => return Err(refused()),
         }
     }
     report(rt, "read_args", start, sum)
@@ -113,8 +115,9 @@ fn time_read_call<R: Print + Clock + AllocGlobal>(rt: &R, bytes: &[u8]) -> io::R
     let mut sum = 0u64;
     let start = Instant::now(rt)?;
     for _ in 0..ROUNDS {
-        if let Ok(Heard::Call(call)) = read_call(rt.alloc(), bytes) {
-            sum = sum.wrapping_add(call.args.len() as u64);
+        match read_call(rt.alloc(), bytes) {
+            Ok(Heard::Call(call)) => sum = sum.wrapping_add(call.args.len() as u64),
+            _ => return Err(refused()),
         }
     }
     report(rt, "read_call", start, sum)
@@ -131,8 +134,9 @@ fn time_write_call<R: Print + Clock + AllocGlobal>(rt: &R) -> io::Result<()> {
     let mut sum = 0u64;
     let start = Instant::now(rt)?;
     for _ in 0..ROUNDS {
-        if let Ok(bytes) = write_call(rt.alloc(), &call) {
-            sum = sum.wrapping_add(bytes.len() as u64);
+        match write_call(rt.alloc(), &call) {
+            Ok(bytes) => sum = sum.wrapping_add(bytes.len() as u64),
+            _ => return Err(refused()),
         }
     }
     report(rt, "write_call", start, sum)
@@ -146,8 +150,9 @@ fn time_write_answer<R: Print + Clock + AllocGlobal>(rt: &R) -> io::Result<()> {
     let mut sum = 0u64;
     let start = Instant::now(rt)?;
     for _ in 0..ROUNDS {
-        if let Ok(bytes) = write_answer(rt.alloc(), &answer) {
-            sum = sum.wrapping_add(bytes.len() as u64);
+        match write_answer(rt.alloc(), &answer) {
+            Ok(bytes) => sum = sum.wrapping_add(bytes.len() as u64),
+            _ => return Err(refused()),
         }
     }
     report(rt, "write_answer", start, sum)
