@@ -15,6 +15,8 @@ use Rattle.fs_rules.specs.declared.file.File.{File}
 use Rattle.fs_rules.specs.declared.plain_tree.PlainTree.{PlainTree}
 use Rattle.fs_rules.specs.File.{is_directory, slots_of}
 use Rattle.fs_rules.specs.Slots.{file_named}
+use Rattle.fs_layout.specs.Words.{spelled}
+use Rattle.fs_layout.specs.Handles.{handle_words}
 use Rattle.fs_rules.specs.Handle.{handle, number_in}
 use Rattle.fs_rules.specs.Statuses.{Check, first_failure, noent, stale}
 use Rattle.fs_rules.specs.Arguments.{file_of, at_file}
