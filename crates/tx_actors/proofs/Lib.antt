@@ -8,3 +8,4 @@ pub mod MachineLemmas
 pub mod LawLemmas
 pub mod RuleLemmas
 pub mod HeadlineLemmas
+pub mod RowLemmas

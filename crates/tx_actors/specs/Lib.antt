@@ -8,3 +8,4 @@ pub mod Laws
 pub mod Numbers
 pub mod Sample
 pub mod Headline
+pub mod Rows

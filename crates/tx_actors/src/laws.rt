@@ -4,6 +4,7 @@ ghost use Rattle.tx_actors.specs.Laws.{StatesAreRuns, OutcomesStand, OutcomesSta
 ghost use Rattle.tx_actors.specs.Rules.{PrepareFollowsRules};
 ghost use Rattle.tx_actors.specs.Numbers.{IdentifiersAreOrdered, IdentifiersTellTheirCoordinator};
 ghost use Rattle.tx_actors.specs.Sample.{SampleEndsWell, MessagesMayDisagree};
+ghost use Rattle.tx_actors.specs.Rows.{TwoPhases, Orphan, Lone};
 
 /// Whatever happens to a formatted cluster, its decisions agree, and it holds the flat memory of its points.
 pub fn formatted_clusters_are_serial()
@@ -93,4 +94,19 @@ pub fn sample_ends_well()
 /// A run in which both decisions on one identifier are posted, after every participant is through with it.
 pub fn messages_may_disagree()
     ensures { MessagesMayDisagree }
+{}
+
+/// A worked case.
+pub fn two_phases()
+    ensures { TwoPhases }
+{}
+
+/// A worked case.
+pub fn orphan()
+    ensures { Orphan }
+{}
+
+/// A worked case.
+pub fn lone()
+    ensures { Lone }
 {}

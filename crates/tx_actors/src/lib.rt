@@ -13,5 +13,5 @@ pub use laws::{
     formatted_clusters_are_serial, identifiers_are_ordered, identifiers_tell_their_coordinator,
     images_are_replayed, looks_of_outcomes_are_flat, messages_may_disagree, outcomes_stand,
     outcomes_stay, prepare_follows_rules, reactions_are_allowed, records_are_kept,
-    sample_ends_well, states_are_runs, undecided_is_open,
+    sample_ends_well, states_are_runs, undecided_is_open, two_phases, orphan, lone,
 };

@@ -5,3 +5,4 @@ pub mod BackupLemmas
 pub mod WholeLemmas
 pub mod SoundnessLemmas
 pub mod SampleLemmas
+pub mod ProjectionLemmas

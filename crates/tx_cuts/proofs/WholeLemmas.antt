@@ -26,12 +26,12 @@ cut_run_append : (s : Setting) (ms : List ℕ) (k : Cuts) (xs ys : List CutEvent
 cut_run_append s ms k [] ys first second = second
 cut_run_append s ms k (x ∷ xs) ys first second = (first.0, cut_run_append s ms (after_cut s k x) xs ys first.1 second)
 
-after_cuts_append : (s : Setting) (k : Cuts) (xs ys : List CutEvent) → after_cuts s k (xs ++ ys) ≡ after_cuts s (after_cuts s k xs) ys
+pub after_cuts_append : (s : Setting) (k : Cuts) (xs ys : List CutEvent) → after_cuts s k (xs ++ ys) ≡ after_cuts s (after_cuts s k xs) ys
 after_cuts_append s k [] ys = refl
 after_cuts_append s k (x ∷ xs) ys = after_cuts_append s (after_cut s k x) xs ys
 
 -- what the transactions do changes the world alone
-does_world : (s : Setting) (k : Cuts) (events : List Event) → after_cuts s k (map Does events) ≡ record k { world = after_all s k.world events }
+pub does_world : (s : Setting) (k : Cuts) (events : List Event) → after_cuts s k (map Does events) ≡ record k { world = after_all s k.world events }
 does_world s k [] = refl
 does_world s k (e ∷ events) = does_world s (after_cut s k (Does e)) events
 

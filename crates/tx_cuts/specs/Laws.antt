@@ -5,10 +5,10 @@ use Rattle.tx_rules.specs.Decision.{Record, Entry, IsOpen, IsCommitted}
 use Rattle.tx_rules.specs.World.{World, Event, Grants, Completes, Refuses, Commits, Aborts, Forgets, IsRun, after_all}
 use Rattle.tx_rules.specs.Opening.{IsOpening}
 use Rattle.tx_rules.specs.Laws.{AlwaysHolds}
-use Rattle.tx_actors.specs.Machine.{appending, IsAboveKnown}
+use Rattle.tx_actors.specs.Machine.{appending, Input, steps, IsAboveKnown}
 use Rattle.tx_actors.specs.Laws.{IsFitting}
 use Rattle.tx_cuts.specs.Cut.{CutMessage, Copy, Cuts, opened_cuts, CutEvent, Does, CutPromises, IsCutRun, after_cuts}
-use Rattle.tx_cuts.specs.Backup.{BackedUp, Whole, WholeInput, whole_steps, opened_whole, images_in}
+use Rattle.tx_cuts.specs.Backup.{BackedUp, Whole, state_of, WholeInput, Acts, knowing, whole_step, whole_steps, opened_whole, images_in}
 
 -- ---- cuts
 
@@ -128,3 +128,14 @@ WholesAreCutRuns = (s : Setting) (size : ℕ) (ms : List ℕ) (log : List Entry)
 abbrev pub BackupsAreFlat : Type 0
 BackupsAreFlat = AlwaysBacked (λ s size ms x. (c : ℕ) (images : List (List ℕ)) → In (BackedUp c images) x.endings
     → (points : List ℕ) × In (c, points) x.cuts.made × (images ≡ images_in size ms (flat s points)))
+
+-- what the actors of the transactions are given among these inputs, each with whether a cut is held
+abbrev pub acted : Setting → ℕ → List ℕ → Whole → List WholeInput → List Input
+acted s size ms x [] = []
+acted s size ms x (Acts input ∷ inputs) = knowing x.cuts input ∷ acted s size ms (whole_step s size ms x (Acts input)) inputs
+acted s size ms x (input ∷ inputs) = acted s size ms (whole_step s size ms x input) inputs
+
+-- without its cuts the whole is a state of the transactions: so all that holds of those holds beside backups
+abbrev pub WholesAreStates : Type 0
+WholesAreStates = (s : Setting) (size : ℕ) (ms : List ℕ) (x : Whole) (inputs : List WholeInput)
+    → state_of (whole_steps s size ms x inputs) ≡ steps s (state_of x) (acted s size ms x inputs)

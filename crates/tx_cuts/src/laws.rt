@@ -1,5 +1,5 @@
 //! Laws of cuts, openings and crashes.
-ghost use Rattle.tx_cuts.specs.Laws.{CutRunsAreRuns, CopiesAreFlat, CutPromisesAreKept, CutsAreMadeOnce, HoldsAreStill, OpensAgain, RecordsMayWait, CrashImagesAreReached, WholesAreCutRuns, BackupsAreFlat};
+ghost use Rattle.tx_cuts.specs.Laws.{CutRunsAreRuns, CopiesAreFlat, CutPromisesAreKept, CutsAreMadeOnce, HoldsAreStill, OpensAgain, RecordsMayWait, CrashImagesAreReached, WholesAreCutRuns, WholesAreStates, BackupsAreFlat};
 ghost use Rattle.tx_cuts.specs.Sound.{SoundOpens, RunsAreSound, CrashImagesAreSound};
 ghost use Rattle.tx_cuts.specs.Sample.{BackupEndsWell, OpeningEndsWell};
 
@@ -76,4 +76,9 @@ pub fn crash_images_are_sound()
 /// An opening with a committed identifier that is undecided everywhere, and a sweep that finishes it.
 pub fn opening_ends_well()
     ensures { OpeningEndsWell }
+{}
+
+/// Without its cuts the whole is a state of the transactions.
+pub fn wholes_are_states()
+    ensures { WholesAreStates }
 {}
