@@ -1,6 +1,4 @@
-pub mod Tests
 pub mod Node
-pub mod Rules
 pub mod Coordinator
 pub mod Manager
 pub mod Machine
@@ -9,3 +7,4 @@ pub mod Numbers
 pub mod Sample
 pub mod Headline
 pub mod Rows
+pub mod Cases

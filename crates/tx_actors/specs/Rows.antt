@@ -1,7 +1,7 @@
 -- Worked cases of the protocol, by computing.
 use Rattle.std.specs.Prelude.{◌≡◌, ℕ, ◌*◌, ◌/◌, ◌==◌, true, false, cond, List, [], ◌∷◌, Some, None}
-use Rattle.tx_rules.specs.Mini.{Mini, Setting}
-use Rattle.tx_rules.specs.Decision.{Grant, Refuse, Commit, Forget, At}
+use Rattle.tx_rules.specs.Mini.{Want, Mini, Setting}
+use Rattle.tx_rules.specs.Decision.{Forced, Locked, Mismatch, Grant, Refuse, Commit, At}
 use Rattle.tx_rules.specs.World.{Granted, Looked, Refused}
 use Rattle.tx_actors.specs.Node.{own, kept_in}
 use Rattle.tx_actors.specs.Coordinator.{Committed, Failed}
@@ -12,16 +12,16 @@ abbrev pub writer : Mini
 writer = record { nodes = 0 ∷ 1 ∷ []; cells = λ m. 12288 ∷ []; wants = λ m. []; reads = λ m. []; writes = λ m a. cond (a == 12288) (Some (cond (m == 0) 0x61 0x62)) None; has_write = true }
 
 abbrev pub reader : Mini
-reader = record { nodes = 0 ∷ 1 ∷ []; cells = λ m. 12288 ∷ []; wants = λ m. []; reads = λ m. 12288 ∷ []; writes = λ m a. None; has_write = false }
+reader = record { nodes = 0 ∷ 1 ∷ []; cells = λ m. 12288 ∷ []; wants = λ m. []; reads = λ m. (12288 ∷ []) ∷ []; writes = λ m a. None; has_write = false }
 
 abbrev pub two_setting : Setting
-two_setting = record { coord = λ t. t / 100; mini = λ t. cond (t == 1) writer reader; old = []; found = []; early = []; start = λ m a. 0 }
+two_setting = record { coord = λ t. t / 100; mini = λ t. cond (t == 1) writer reader; old = []; found = []; early = []; noted = λ m t. []; start = λ m a. 0 }
 
 abbrev pub two_first : List Input
-two_first = Begin 1 ∷ ToNode 0 1 false ∷ Begin 101 ∷ ToNode 2 1 false ∷ ToCoordinator 3 ∷ ToNode 0 0 false ∷ []
+two_first = Begin 1 ∷ ToNode 0 1 None ∷ Begin 101 ∷ ToNode 2 1 None ∷ ToCoordinator 3 ∷ ToNode 0 0 None ∷ []
 
 abbrev pub two_second : List Input
-two_second = ToCoordinator 5 ∷ ToCoordinator 1 ∷ ToNode 4 0 false ∷ ToNode 2 0 false ∷ []
+two_second = ToCoordinator 5 ∷ ToCoordinator 1 ∷ ToNode 4 0 None ∷ ToNode 2 0 None ∷ []
 
 abbrev pub two_start : State
 two_start = steps two_setting (opened_at two_setting [] (λ m a. 0) (λ c. 100 * c)) two_first
@@ -30,17 +30,17 @@ abbrev pub two_end : State
 two_end = steps two_setting two_start two_second
 
 pub record TwoPhases : Type 0 where
-  pub locked : numbered two_start.world.posted 3 ≡ Some (Refused 1 101)
+  pub locked : numbered two_start.world.posted 3 ≡ Some (Refused 1 101 (Locked 1))
   pub point : two_start.world.points ≡ 1 ∷ []
-  pub outcomes : two_end.outcomes ≡ Committed 1 ((1, []) ∷ (0, []) ∷ []) ∷ Failed 101 ∷ []
-  pub forced : numbered two_end.world.posted 8 ≡ Some (Refused 0 101)
-  pub log : two_end.world.log ≡ At 0 (Refuse 101) ∷ At 0 (Grant 1) ∷ At 1 (Refuse 101) ∷ At 1 (Grant 1) ∷ []
+  pub outcomes : two_end.outcomes ≡ Committed 1 ((1, []) ∷ (0, []) ∷ []) ∷ Failed 101 1 (Locked 1) ∷ []
+  pub forced : numbered two_end.world.posted 8 ≡ Some (Refused 0 101 (Forced 101))
+  pub log : two_end.world.log ≡ At 0 (Refuse 101 (Forced 101)) ∷ At 0 (Grant 1) ∷ At 1 (Refuse 101 (Locked 1)) ∷ At 1 (Grant 1) ∷ []
 
 abbrev pub orphan_inputs : List Input
 orphan_inputs =
-    BootCoordinator 0 ∷ BootNode 1 ∷ Sweep ∷ ToNode 2 0 false ∷ ToNode 4 0 false ∷ ToNode 4 1 false ∷ ToNode 6 0 false ∷ ToCoordinator 7
-    ∷ ToCoordinator 8 ∷ ToCoordinator 9 ∷ ToManager 10 ∷ ToNode 11 0 false ∷ ToNode 11 1 false ∷ ToNode 12 0 false ∷ ToNode 12 1 false ∷ ToManager 13 ∷ ToManager 14
-    ∷ ToNode 15 0 false ∷ ToNode 15 1 false ∷ ToManager 16 ∷ ToManager 17 ∷ ToNode 18 0 false ∷ ToNode 18 1 false ∷ []
+    BootCoordinator 0 ∷ BootNode 1 ∷ Sweep ∷ ToNode 2 0 None ∷ ToNode 4 0 None ∷ ToNode 4 1 None ∷ ToNode 6 0 None ∷ ToCoordinator 7
+    ∷ ToCoordinator 8 ∷ ToCoordinator 9 ∷ ToManager 10 ∷ ToNode 11 0 None ∷ ToNode 11 1 None ∷ ToNode 12 0 None ∷ ToNode 12 1 None ∷ ToManager 13 ∷ ToManager 14
+    ∷ ToNode 15 0 None ∷ ToNode 15 1 None ∷ ToManager 16 ∷ ToManager 17 ∷ ToNode 18 0 None ∷ ToNode 18 1 None ∷ []
 
 abbrev pub orphan_end : State
 orphan_end = steps two_setting two_start orphan_inputs
@@ -49,26 +49,26 @@ pub record Orphan : Type 0 where
   pub points : orphan_end.world.points ≡ 1 ∷ []
   pub first : orphan_end.world.image 0 12288 ≡ 0x61
   pub second : orphan_end.world.image 1 12288 ≡ 0x62
-  pub none : kept_in two_setting (own 0 orphan_end.world.log) ≡ []
-  pub none_too : kept_in two_setting (own 1 orphan_end.world.log) ≡ []
+  pub none : kept_in two_setting 0 (own 0 orphan_end.world.log) ≡ []
+  pub none_too : kept_in two_setting 1 (own 1 orphan_end.world.log) ≡ []
 
 -- one participant: 1 reads, 2 writes 07, 3 compares 08 and writes 09
-abbrev pub lone : List (ℕ × ℕ) → List ℕ → ℕ → Mini
+abbrev pub lone : List Want → List (List ℕ) → ℕ → Mini
 lone wants reads b = record { nodes = 0 ∷ []; cells = λ m. 12288 ∷ []; wants = λ m. wants; reads = λ m. reads; writes = λ m a. cond (a == 12288) (cond (b == 0) None (Some b)) None; has_write = cond (b == 0) false true }
 
 abbrev pub lone_setting : Setting
-lone_setting = record { coord = λ t. t / 100; mini = λ t. cond (t == 1) (lone [] (12288 ∷ []) 0) (cond (t == 2) (lone [] [] 7) (lone ((12288, 8) ∷ []) [] 9)); old = []; found = []; early = []; start = λ m a. 5 }
+lone_setting = record { coord = λ t. t / 100; mini = λ t. cond (t == 1) (lone [] ((12288 ∷ []) ∷ []) 0) (cond (t == 2) (lone [] [] 7) (lone (record { cell = 12288; byte = 8; item = 0 } ∷ []) [] 9)); old = []; found = []; early = []; noted = λ m t. []; start = λ m a. 5 }
 
 abbrev pub lone_end : State
 lone_end = steps lone_setting (opened_at lone_setting [] (λ m a. 5) (λ c. 100 * c))
-    (Begin 1 ∷ ToNode 0 0 false ∷ ToCoordinator 1 ∷ Begin 2 ∷ ToNode 2 0 false ∷ ToNode 2 0 false ∷ ToCoordinator 3 ∷ Begin 3 ∷ ToNode 5 0 false ∷ ToNode 2 0 false ∷ [])
+    (Begin 1 ∷ ToNode 0 0 None ∷ ToCoordinator 1 ∷ Begin 2 ∷ ToNode 2 0 None ∷ ToNode 2 0 None ∷ ToCoordinator 3 ∷ Begin 3 ∷ ToNode 5 0 None ∷ ToNode 2 0 None ∷ [])
 
 pub record Lone : Type 0 where
-  pub looked : numbered lone_end.world.posted 1 ≡ Some (Looked 0 1 (5 ∷ []))
+  pub looked : numbered lone_end.world.posted 1 ≡ Some (Looked 0 1 ((5 ∷ []) ∷ []))
   pub granted : numbered lone_end.world.posted 3 ≡ Some (Granted 0 2 [])
   pub again : numbered lone_end.world.posted 4 ≡ Some (Granted 0 2 [])
-  pub mismatch : numbered lone_end.world.posted 6 ≡ Some (Refused 0 3)
-  pub forced : numbered lone_end.world.posted 7 ≡ Some (Refused 0 2)
-  pub log : lone_end.world.log ≡ At 0 (Refuse 3) ∷ At 0 (Commit 2) ∷ At 0 (Grant 2) ∷ []
+  pub mismatch : numbered lone_end.world.posted 6 ≡ Some (Refused 0 3 (Mismatch 0))
+  pub forced : numbered lone_end.world.posted 7 ≡ Some (Refused 0 2 (Forced 3))
+  pub log : lone_end.world.log ≡ At 0 (Refuse 3 (Mismatch 0)) ∷ At 0 (Commit 2) ∷ At 0 (Grant 2) ∷ []
   pub image : lone_end.world.image 0 12288 ≡ 7
-  pub outcomes : lone_end.outcomes ≡ Committed 2 ((0, []) ∷ []) ∷ Committed 1 ((0, 5 ∷ []) ∷ []) ∷ []
+  pub outcomes : lone_end.outcomes ≡ Committed 2 ((0, []) ∷ []) ∷ Committed 1 ((0, (5 ∷ []) ∷ []) ∷ []) ∷ []

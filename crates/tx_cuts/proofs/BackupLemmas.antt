@@ -3,7 +3,7 @@ use Rattle.std.proofs.Common.{◌≡◌, ℕ, zero, suc, ◌+◌, ◌≤◌, ◌
 use Rattle.std.proofs.lemmas.Bool.{eqb-true, eq-eqb, leb-true, le-leb, ltb-false, and_parts, or_cases}
 use Rattle.tx_rules.specs.Mini.{In, Memory, Setting, flat}
 use Rattle.tx_rules.specs.Decision.{Record, Grant, Entry, IsOpen}
-use Rattle.tx_actors.specs.Tests.{all_in}
+use Rattle.tx_rules.specs.Lists.{all_in}
 use Rattle.tx_actors.specs.Node.{own, is_undecided, granted_in}
 use Rattle.tx_actors.proofs.TestLemmas.{or_left, or_right, or_none, not_two, all_in-In}
 use Rattle.tx_actors.proofs.RecordLemmas.{In-granted_in, log-own, is_open}

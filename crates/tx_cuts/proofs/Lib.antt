@@ -6,3 +6,5 @@ pub mod WholeLemmas
 pub mod SoundnessLemmas
 pub mod SampleLemmas
 pub mod ProjectionLemmas
+pub mod HeldLemmas
+pub mod StopLemmas

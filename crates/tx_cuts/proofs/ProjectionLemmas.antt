@@ -1,14 +1,15 @@
 -- Without its cuts the whole is a state of the transactions.
-use Rattle.std.proofs.Common.{◌≡◌, ℕ, ◌+◌, nat_le, nat_lt, ◌==◌, Bool, true, false, cond, ◌&&◌, List, [], ◌∷◌, ◌++◌, map, length, Option, Some, None, refl, sym, ap, ◌∙◌}
+use Rattle.std.proofs.Common.{◌≡◌, ℕ, ◌+◌, nat_le, nat_lt, ◌==◌, Bool, true, false, cond, ◌&&◌, List, [], ◌∷◌, ◌++◌, map, length, Option, Some, None, refl, ap, ◌∙◌}
 use Rattle.tx_rules.specs.Mini.{Setting}
-use Rattle.tx_rules.specs.World.{World, Event, after_all}
-use Rattle.tx_actors.specs.Tests.{is_in, all_in}
+use Rattle.tx_rules.specs.World.{World, after_all}
+use Rattle.tx_rules.specs.Lists.{is_in, all_in}
 use Rattle.tx_actors.specs.Node.{own, granted_in}
 use Rattle.tx_actors.specs.Machine.{State, Input, Begin, ToNode, ToStoppingNode, ToCoordinator, ToManager, GiveUp, Resend, BootCoordinator, BootNode, Sweep, ResendManager, BootManager, move, step, steps}
 use Rattle.tx_cuts.specs.Cut.{CutMessage, Hold, HeldOk, HeldLocked, HeldPast, Release, Drop, Read, Piece, PieceNone, StillHeld, Copy, Cuts, CutEvent, Does, Holds, Raises, Releases, Loses, Makes, Sends, after_cut, after_cuts}
-use Rattle.tx_cuts.specs.Backup.{cut_passed, any_undecided, is_of, on_hold, on_hold_stopping, on_release, on_drop, piece_bytes, on_read, on_list, Phase, Holding, Reading, Backup, CutAct, keeps, fails, reads_on, hear_held, hear_piece, hear_cut, hear_no_cut, hears_cut, gives_up, posts_again, resends, Whole, state_of, numbered_cut, WholeInput, Acts, CutToNode, CutToStoppingNode, Lists, CutToManager, BeginBackup, GiveUpBackup, ResendBackup, BootBackup, knowing, lost_in, handle_cut, handle_cut_stopping, manager_hears, with_events, with_act, with_move, begins_backup, whole_step, whole_steps}
+use Rattle.tx_cuts.specs.Backup.{cut_passed, any_undecided, is_of, on_hold, on_hold_stopping, on_release, on_drop, piece_bytes, on_read, on_list, Phase, Holding, Reading, Backup, CutAct, reads_on, hear_held, hear_piece, hear_cut, hear_no_cut, gives_up, posts_again, resends, Whole, state_of, numbered_cut, Acts, CutToNode, CutToStoppingNode, Lists, CutToManager, BeginBackup, GiveUpBackup, ResendBackup, BootBackup, knowing, lost_in, handle_cut, handle_cut_stopping, manager_hears, with_events, with_act, begins_backup, whole_step}
 use Rattle.tx_cuts.specs.Laws.{acted, WholesAreStates}
-use Rattle.tx_cuts.proofs.WholeLemmas.{after_cuts_append, does_world}
+use Rattle.tx_cuts.proofs.HeldLemmas.{does_world}
+use Rattle.tx_cuts.proofs.WholeLemmas.{after_cuts_append}
 
 -- events that leave the transactions alone
 abbrev pub AreOfCuts : List CutEvent → Type 0
@@ -183,9 +184,9 @@ module _ (s : Setting) (size : ℕ) (ms : List ℕ) (x : Whole) where
       let m = move s (state_of x) (knowing x.cuts input) in
       let k = after_cuts s x.cuts (map Does m.events) in
       let world : (after_cuts s x.cuts (map Does m.events ++ lost_in input)).world ≡ after_all s x.cuts.world m.events =
-          ap (λ (y : Cuts). y.world) (after_cuts_append s x.cuts (map Does m.events) (lost_in input))
-          ∙ still s k (lost_in input) (lost_cuts input)
-          ∙ ap (λ (y : Cuts). y.world) (does_world s x.cuts m.events) in
+      ap (λ (y : Cuts). y.world) (after_cuts_append s x.cuts (map Does m.events) (lost_in input))
+      ∙ still s k (lost_in input) (lost_cuts input)
+      ∙ ap (λ (y : Cuts). y.world) (does_world s x.cuts m.events) in
       ap (λ (w : World). let st : State = record { world = w; coordinator = m.coordinator; manager = m.manager; outcomes = m.outcomes } in st) world
 
   node_step : (n m : ℕ) → state_of (whole_step s size ms x (CutToNode n m)) ≡ state_of x

@@ -2,7 +2,7 @@
 use Rattle.std.specs.Prelude.{ℕ, ◌+◌, ◌-◌, min, nat_le, nat_lt, ◌==◌, Bool, false, cond, ◌&&◌, ◌||◌, List, [], ◌∷◌, ◌++◌, map, length, Option, Some, None}
 use Rattle.tx_rules.specs.Mini.{Memory, Setting}
 use Rattle.tx_rules.specs.Decision.{Record, Entry}
-use Rattle.tx_actors.specs.Tests.{is_in, all_in}
+use Rattle.tx_rules.specs.Lists.{is_in, all_in}
 use Rattle.tx_actors.specs.Node.{own, is_undecided, granted_in}
 use Rattle.tx_actors.specs.Coordinator.{Coordinator, Outcome}
 use Rattle.tx_actors.specs.Manager.{Work}
@@ -21,15 +21,15 @@ abbrev pub any_undecided : List Record → List ℕ → Bool
 any_undecided rs [] = false
 any_undecided rs (t ∷ ts) = is_undecided rs t || any_undecided rs ts
 
--- whether a copy is of the cut, and whether it is held
+-- whether a copy is of the cut
 abbrev pub is_of : ℕ → Option Copy → Bool
 is_of c None = false
 is_of c (Some copy) = copy.cut == c
 
--- whether a copy is held
-abbrev pub is_held : Option Copy → Bool
-is_held None = false
-is_held (Some copy) = copy.held
+-- the cut that a memory node with this copy holds
+abbrev pub held_cut : Option Copy → Option ℕ
+held_cut None = None
+held_cut (Some copy) = cond copy.held (Some copy.cut) None
 
 -- `hold`: ok again where the cut is held or copied; past at the cut floor or below; else the cut is the floor, an
 -- older copy is dropped, and without a lock the image is copied and held
@@ -200,10 +200,10 @@ pub data WholeInput : Type 0 where
   ResendBackup : WholeInput
   BootBackup : WholeInput
 
--- an input to a memory node with whether it holds a cut
+-- an input to a memory node with the cut that it holds
 abbrev pub knowing : Cuts → Input → Input
-knowing k (ToNode n m held) = ToNode n m (is_held (k.copies m))
-knowing k (ToStoppingNode n m held) = ToStoppingNode n m (is_held (k.copies m))
+knowing k (ToNode n m held) = ToNode n m (held_cut (k.copies m))
+knowing k (ToStoppingNode n m held) = ToStoppingNode n m (held_cut (k.copies m))
 knowing k input = input
 
 -- the copy that is lost where a memory node stops
