@@ -9,3 +9,5 @@ pub mod FloorLemmas
 pub mod StateLemmas
 pub mod DecideLemmas
 pub mod LeaveLemmas
+pub mod ListLemmas
+pub mod CutLemmas

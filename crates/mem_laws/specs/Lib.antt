@@ -1,3 +1,4 @@
 pub mod Cells
 pub mod Shown
 pub mod Laws
+pub mod Cuts

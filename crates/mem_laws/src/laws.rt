@@ -1,4 +1,5 @@
 //! Laws of a memory node's rules and of the machine's.
+ghost use Rattle.mem_laws.specs.Cuts.{ListsAreTheMachines, HeldCutsAreTheMachines, ListedCutsAreTheMachines, HoldsAreTheMachines, ReleasesAreTheMachines, DropsAreTheMachines, ReadsAreTheMachines};
 ghost use Rattle.mem_laws.specs.Laws.{RulesAreTheMachines, VotesAreTheMachines, StatesAreTheMachines, DecisionsAreTheMachines, ForgettingIsTheMachines, AnswersAreTheMachines, DecisionsLeaveTheSame, ForgettingLeavesTheSame, AnswersLeaveTheSame, OthersLeaveIt, OpenedNodesShow};
 
 /// A memory node finds the rule that the machine finds.
@@ -54,4 +55,39 @@ pub fn others_leave_it()
 /// Without entries a memory node shows in a machine without records.
 pub fn opened_nodes_show()
     ensures { OpenedNodesShow }
+{}
+
+/// A memory node names in an answer to `list` what the machine names, in the same order, with the same participants.
+pub fn lists_are_the_machines()
+    ensures { ListsAreTheMachines }
+{}
+
+/// It holds the cut that the machine holds.
+pub fn held_cuts_are_the_machines()
+    ensures { HeldCutsAreTheMachines }
+{}
+
+/// The cut that its answer to `list` names is the one that the machine sends.
+pub fn listed_cuts_are_the_machines()
+    ensures { ListedCutsAreTheMachines }
+{}
+
+/// It does with `hold` what the machine does, and shows in it again.
+pub fn holds_are_the_machines()
+    ensures { HoldsAreTheMachines }
+{}
+
+/// And with `release`.
+pub fn releases_are_the_machines()
+    ensures { ReleasesAreTheMachines }
+{}
+
+/// And with `drop`.
+pub fn drops_are_the_machines()
+    ensures { DropsAreTheMachines }
+{}
+
+/// And with `read`: the piece has the bytes of the machine.
+pub fn reads_are_the_machines()
+    ensures { ReadsAreTheMachines }
 {}
