@@ -11,3 +11,4 @@ pub mod DecideLemmas
 pub mod LeaveLemmas
 pub mod ListLemmas
 pub mod CutLemmas
+pub mod LoadLemmas

@@ -2,3 +2,4 @@ pub mod Cells
 pub mod Shown
 pub mod Laws
 pub mod Cuts
+pub mod Loaded

@@ -1,5 +1,6 @@
 //! Laws of a memory node's rules and of the machine's.
 ghost use Rattle.mem_laws.specs.Cuts.{ListsAreTheMachines, HeldCutsAreTheMachines, ListedCutsAreTheMachines, HoldsAreTheMachines, ReleasesAreTheMachines, DropsAreTheMachines, ReadsAreTheMachines};
+ghost use Rattle.mem_laws.specs.Loaded.{LoadedNodesShow};
 ghost use Rattle.mem_laws.specs.Laws.{RulesAreTheMachines, VotesAreTheMachines, StatesAreTheMachines, DecisionsAreTheMachines, ForgettingIsTheMachines, AnswersAreTheMachines, DecisionsLeaveTheSame, ForgettingLeavesTheSame, AnswersLeaveTheSame, OthersLeaveIt, OpenedNodesShow};
 
 /// A memory node finds the rule that the machine finds.
@@ -90,4 +91,9 @@ pub fn drops_are_the_machines()
 /// And with `read`: the piece has the bytes of the machine.
 pub fn reads_are_the_machines()
     ensures { ReadsAreTheMachines }
+{}
+
+/// A state that a load finds shows in a machine that is opened from states, floors without a record included.
+pub fn loaded_nodes_show()
+    ensures { LoadedNodesShow }
 {}

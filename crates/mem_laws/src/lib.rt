@@ -11,7 +11,7 @@ pub use laws::{
     answers_are_the_machines, answers_leave_the_same, decisions_are_the_machines,
     decisions_leave_the_same, drops_are_the_machines, forgetting_is_the_machines,
     forgetting_leaves_the_same, held_cuts_are_the_machines, holds_are_the_machines,
-    listed_cuts_are_the_machines, lists_are_the_machines, opened_nodes_show, others_leave_it,
-    reads_are_the_machines, releases_are_the_machines, rules_are_the_machines,
+    listed_cuts_are_the_machines, lists_are_the_machines, loaded_nodes_show, opened_nodes_show,
+    others_leave_it, reads_are_the_machines, releases_are_the_machines, rules_are_the_machines,
     states_are_the_machines, votes_are_the_machines,
 };
