@@ -93,7 +93,7 @@ in_from at (suc n) c h = elim h [
   | inr rest ↦ let r = in_from (at + 1) n c rest in (omega (arith, r), omega (arith, r))
 ]
 
-from_in : (at n c : ℕ) → at ≤ c → c < at + n → In c (cells_from at n)
+pub from_in : (at n c : ℕ) → at ≤ c → c < at + n → In c (cells_from at n)
 from_in at zero c low high = absurd (omega arith)
 from_in at (suc n) c low high = elim (cases_eq c at) [
   | inl e ↦ inl e

@@ -12,3 +12,4 @@ pub mod LeaveLemmas
 pub mod ListLemmas
 pub mod CutLemmas
 pub mod LoadLemmas
+pub mod MiniLemmas

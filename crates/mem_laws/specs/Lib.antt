@@ -3,3 +3,4 @@ pub mod Shown
 pub mod Laws
 pub mod Cuts
 pub mod Loaded
+pub mod Minis

@@ -1,6 +1,7 @@
 //! Laws of a memory node's rules and of the machine's.
 ghost use Rattle.mem_laws.specs.Cuts.{ListsAreTheMachines, HeldCutsAreTheMachines, ListedCutsAreTheMachines, HoldsAreTheMachines, ReleasesAreTheMachines, DropsAreTheMachines, ReadsAreTheMachines};
 ghost use Rattle.mem_laws.specs.Loaded.{LoadedNodesShow};
+ghost use Rattle.mem_laws.specs.Minis.{ValidMinisFit, MinisAreTold, MinisMatchAlike, MinisReadAlike, MinisWriteAlike, FlatMemoriesAreAlike};
 ghost use Rattle.mem_laws.specs.Laws.{RulesAreTheMachines, VotesAreTheMachines, StatesAreTheMachines, DecisionsAreTheMachines, ForgettingIsTheMachines, AnswersAreTheMachines, DecisionsLeaveTheSame, ForgettingLeavesTheSame, AnswersLeaveTheSame, OthersLeaveIt, OpenedNodesShow};
 
 /// A memory node finds the rule that the machine finds.
@@ -96,4 +97,34 @@ pub fn reads_are_the_machines()
 /// A state that a load finds shows in a machine that is opened from states, floors without a record included.
 pub fn loaded_nodes_show()
     ensures { LoadedNodesShow }
+{}
+
+/// A valid minitransaction over byte lists gives an entry of the table that fits.
+pub fn valid_minis_fit()
+    ensures { ValidMinisFit }
+{}
+
+/// Where the table has it, each participant is told its own items.
+pub fn minis_are_told()
+    ensures { MinisAreTold }
+{}
+
+/// The same compare items match over bytes and over cells.
+pub fn minis_match_alike()
+    ensures { MinisMatchAlike }
+{}
+
+/// The same bytes are read at each memory node.
+pub fn minis_read_alike()
+    ensures { MinisReadAlike }
+{}
+
+/// The same bytes stand after the writes.
+pub fn minis_write_alike()
+    ensures { MinisWriteAlike }
+{}
+
+/// The flat memory of cells is the one of bytes, at each place of the history.
+pub fn flat_memories_are_alike()
+    ensures { FlatMemoriesAreAlike }
 {}
