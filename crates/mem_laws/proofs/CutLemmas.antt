@@ -19,7 +19,7 @@ use Rattle.tx_actors.specs.Node as machine
 use Rattle.tx_actors.proofs.TestLemmas.{In-filter, In-map, filter-In, map-In, not_two}
 use Rattle.tx_actors.proofs.RecordLemmas.{has_grant-In, In-granted_in}
 use Rattle.tx_cuts.specs.Cut.{Copy, Cuts, CutEvent, HeldOk, HeldLocked, HeldPast, Piece, PieceNone, StillHeld, Holds, Raises, Releases, Loses, Sends, with_copy, part, after_cuts}
-use Rattle.tx_cuts.specs.Backup.{cut_passed, any_undecided, is_of, held_cut, piece_bytes, on_hold, on_release, on_drop, on_read, on_list}
+use Rattle.tx_cuts.specs.Holds.{cut_passed, any_undecided, is_of, held_cut, piece_bytes, on_hold, on_release, on_drop, on_read, on_list}
 use Rattle.mem_laws.specs.Cells.{number, cut_number, cells_from}
 use Rattle.mem_laws.specs.Cuts.{IsShownCopy, ShowsCopy, IsTypedFloor, ShowsWithCuts, HeldCutsAreTheMachines, IsShownCut, HoldsAreTheMachines, ReleasesAreTheMachines, DropsAreTheMachines, ReadsAreTheMachines, still_held, ListedCutsAreTheMachines}
 use Rattle.mem_laws.specs.Shown.{Shows}

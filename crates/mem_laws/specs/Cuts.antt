@@ -12,7 +12,7 @@ use Rattle.mem_node.specs.Rules as node
 use Rattle.tx_rules.specs.Mini.{Setting}
 use Rattle.tx_actors.specs.Node as machine
 use Rattle.tx_cuts.specs.Cut.{CutMessage, HeldOk, HeldLocked, HeldPast, Piece, PieceNone, StillHeld, Copy, Cuts, CutEvent, Sends, after_cuts}
-use Rattle.tx_cuts.specs.Backup.{cut_passed, held_cut, on_hold, on_release, on_drop, on_read, on_list}
+use Rattle.tx_cuts.specs.Holds.{cut_passed, held_cut, on_hold, on_release, on_drop, on_read, on_list}
 use Rattle.mem_laws.specs.Cells.{number, cut_number, cells_from}
 use Rattle.mem_laws.specs.Shown.{Shows, cut_held}
 

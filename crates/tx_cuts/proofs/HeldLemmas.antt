@@ -17,7 +17,8 @@ use Rattle.tx_actors.proofs.CoordinatorLemmas.{resend_fine, hear_granted_fine, h
 use Rattle.tx_actors.proofs.ManagerLemmas.{learn_fine, resend_manager_fine}
 use Rattle.tx_actors.proofs.MachineLemmas.{IsFit, numbered-In}
 use Rattle.tx_cuts.specs.Cut.{Copy, Cuts, IsHeld, IsHeldSo, Does, IsClear, after_cut, IsCutRun, after_cuts}
-use Rattle.tx_cuts.specs.Backup.{held_cut, Whole, state_of, knowing}
+use Rattle.tx_cuts.specs.Holds.{held_cut}
+use Rattle.tx_cuts.specs.Whole.{Whole, state_of, knowing}
 use Rattle.tx_cuts.proofs.CrashLemmas.{record_log}
 
 -- ---- events that are clear one after another

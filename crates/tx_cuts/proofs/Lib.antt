@@ -8,3 +8,4 @@ pub mod SampleLemmas
 pub mod ProjectionLemmas
 pub mod HeldLemmas
 pub mod StopLemmas
+pub mod CaseLemmas

@@ -6,7 +6,9 @@ use Rattle.tx_rules.specs.Lists.{is_in, all_in}
 use Rattle.tx_actors.specs.Node.{own, granted_in}
 use Rattle.tx_actors.specs.Machine.{State, Input, Begin, ToNode, ToStoppingNode, ToCoordinator, ToManager, GiveUp, Resend, BootCoordinator, BootNode, Sweep, ResendManager, BootManager, move, step, steps}
 use Rattle.tx_cuts.specs.Cut.{CutMessage, Hold, HeldOk, HeldLocked, HeldPast, Release, Drop, Read, Piece, PieceNone, StillHeld, Copy, Cuts, CutEvent, Does, Holds, Raises, Releases, Loses, Makes, Sends, after_cut, after_cuts}
-use Rattle.tx_cuts.specs.Backup.{cut_passed, any_undecided, is_of, on_hold, on_hold_stopping, on_release, on_drop, piece_bytes, on_read, on_list, Phase, Holding, Reading, Backup, CutAct, reads_on, hear_held, hear_piece, hear_cut, hear_no_cut, gives_up, posts_again, resends, Whole, state_of, numbered_cut, Acts, CutToNode, CutToStoppingNode, Lists, CutToManager, BeginBackup, GiveUpBackup, ResendBackup, BootBackup, knowing, lost_in, handle_cut, handle_cut_stopping, manager_hears, with_events, with_act, begins_backup, whole_step}
+use Rattle.tx_cuts.specs.Holds.{cut_passed, any_undecided, is_of, on_hold, on_hold_stopping, on_release, on_drop, piece_bytes, on_read, on_list}
+use Rattle.tx_cuts.specs.Backup.{Phase, Holding, Reading, Backup, CutAct, reads_on, hear_held, hear_piece, running_hears, idle_hears, gives_up, posts_again, resends}
+use Rattle.tx_cuts.specs.Whole.{Whole, state_of, numbered_cut, Acts, CutToNode, CutToStoppingNode, Lists, CutToManager, BeginBackup, GiveUpBackup, ResendBackup, BootBackup, knowing, lost_in, handle_cut, handle_cut_stopping, manager_hears, with_events, with_act, begins_backup, whole_step}
 use Rattle.tx_cuts.specs.Laws.{acted, WholesAreStates}
 use Rattle.tx_cuts.proofs.HeldLemmas.{does_world}
 use Rattle.tx_cuts.proofs.WholeLemmas.{after_cuts_append}
@@ -117,7 +119,7 @@ piece_cuts size m c place piece b (Reading (n ∷ left) bytes images) =
     (act_chosen (nat_lt (length (bytes ++ piece)) size) _ _ (reads_cuts c (n ∷ left) (bytes ++ piece) images) (reads_cuts c left [] (images ++ (bytes ++ piece) ∷ [])))
     tt
 
-hear_cuts : (size : ℕ) (ms : List ℕ) (b : Backup) (p : CutMessage) → AreOfCuts (hear_cut size ms b p).events
+hear_cuts : (size : ℕ) (ms : List ℕ) (b : Backup) (p : CutMessage) → AreOfCuts (running_hears size ms b p).events
 hear_cuts size ms b (HeldOk m c) = act_chosen (b.cut == c) _ _ (held_cuts ms m c b b.phase) tt
 hear_cuts size ms b (HeldLocked m c) = act_chosen (b.cut == c) _ _ tt tt
 hear_cuts size ms b (HeldPast m c) = act_chosen (b.cut == c) _ _ tt tt
@@ -129,7 +131,7 @@ hear_cuts size ms b (Release c) = tt
 hear_cuts size ms b (Drop c) = tt
 hear_cuts size ms b (Read m c place) = tt
 
-no_cuts : (p : CutMessage) → AreOfCuts (hear_no_cut p).events
+no_cuts : (p : CutMessage) → AreOfCuts (idle_hears p).events
 no_cuts (StillHeld m c) = tt
 no_cuts (HeldOk m c) = tt
 no_cuts (HeldLocked m c) = tt

@@ -12,7 +12,9 @@ use Rattle.tx_actors.proofs.TestLemmas.{is_in-In}
 use Rattle.tx_actors.proofs.FitLemmas.{begun_all}
 use Rattle.tx_actors.proofs.MachineLemmas.{IsFit, move_well, opening_fit}
 use Rattle.tx_cuts.specs.Cut.{CutMessage, Hold, HeldOk, HeldLocked, HeldPast, Release, Drop, Read, Piece, PieceNone, StillHeld, Cuts, CutEvent, Does, Holds, Raises, Releases, Loses, Makes, Sends, after_cut, IsCutRun, after_cuts}
-use Rattle.tx_cuts.specs.Backup.{Phase, Holding, Reading, Backup, Ending, BackedUp, Ended, CutAct, keeps, gives_up, resends, Whole, state_of, numbered_cut, WholeInput, Acts, CutToNode, CutToStoppingNode, Lists, CutToManager, BeginBackup, GiveUpBackup, ResendBackup, BootBackup, knowing, lost_in, handle_cut, handle_cut_stopping, on_read, on_list, manager_hears, with_events, with_act, with_move, begins_backup, whole_step, whole_steps, opened_whole}
+use Rattle.tx_cuts.specs.Holds.{on_read, on_list}
+use Rattle.tx_cuts.specs.Backup.{Phase, Holding, Reading, Backup, Ending, BackedUp, Ended, CutAct, keeps, gives_up, resends}
+use Rattle.tx_cuts.specs.Whole.{Whole, state_of, numbered_cut, WholeInput, Acts, CutToNode, CutToStoppingNode, Lists, CutToManager, BeginBackup, GiveUpBackup, ResendBackup, BootBackup, knowing, lost_in, handle_cut, handle_cut_stopping, manager_hears, with_events, with_act, with_move, begins_backup, whole_step, whole_steps, opened_whole}
 use Rattle.tx_cuts.specs.Laws.{WholesAreCutRuns, BackupsAreFlat}
 use Rattle.tx_cuts.proofs.HeldLemmas.{does_run, does_world, move_clear}
 use Rattle.tx_cuts.proofs.CutLemmas.{IsCutSound, cut_sound_all, cut_sound_opening}

@@ -9,7 +9,8 @@ use Rattle.tx_actors.specs.Node.{AllElsewhere}
 use Rattle.tx_actors.specs.Machine.{appending, Input, steps, IsAboveKnown}
 use Rattle.tx_actors.specs.Laws.{IsFitting}
 use Rattle.tx_cuts.specs.Cut.{CutMessage, Copy, Cuts, opened_cuts, IsHeld, CutEvent, Does, CutPromises, IsCutRun, after_cuts}
-use Rattle.tx_cuts.specs.Backup.{BackedUp, Whole, state_of, WholeInput, Acts, knowing, whole_step, whole_steps, opened_whole, images_in}
+use Rattle.tx_cuts.specs.Backup.{BackedUp}
+use Rattle.tx_cuts.specs.Whole.{Whole, state_of, WholeInput, Acts, knowing, whole_step, whole_steps, opened_whole, images_in}
 
 -- ---- cuts
 

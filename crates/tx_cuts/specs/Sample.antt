@@ -6,7 +6,8 @@ use Rattle.tx_rules.specs.Decision.{Held, Grant, Entry, At}
 use Rattle.tx_actors.specs.Coordinator.{Failed, Committed}
 use Rattle.tx_actors.specs.Machine.{State, Input, Begin, ToNode, ToCoordinator, ToManager, Sweep, steps, opened_at}
 use Rattle.tx_actors.specs.Sample.{sample_setting}
-use Rattle.tx_cuts.specs.Backup.{BackedUp, Whole, WholeInput, Acts, CutToNode, CutToManager, BeginBackup, whole_steps, opened_whole}
+use Rattle.tx_cuts.specs.Backup.{BackedUp}
+use Rattle.tx_cuts.specs.Whole.{Whole, WholeInput, Acts, CutToNode, CutToManager, BeginBackup, whole_steps, opened_whole}
 use Rattle.tx_cuts.specs.Sound.{IsTold, IsSoundFor}
 
 -- what happens

@@ -1,6 +1,7 @@
 //! Laws of cuts, openings and crashes.
 ghost use Rattle.tx_cuts.specs.Laws.{CutRunsAreRuns, CopiesAreFlat, CutPromisesAreKept, CutsAreMadeOnce, HoldsAreStill, HeldVotesWereHeld, OpensAgain, RecordsMayWait, CrashImagesAreReached, WholesAreCutRuns, WholesAreStates, BackupsAreFlat};
 ghost use Rattle.tx_cuts.specs.Sound.{SoundOpens, RunsAreSound, CrashImagesAreSound, StatesAreSound, StepsJoin, CrashedStatesAreSound};
+ghost use Rattle.tx_cuts.specs.Cases.{CutsGoOn, BackupsEnd};
 ghost use Rattle.tx_cuts.specs.Sample.{BackupEndsWell, OpeningEndsWell};
 
 /// With cuts the transactions still run by their rules.
@@ -101,4 +102,14 @@ pub fn steps_join()
 /// Memory nodes that crash together, each with its records durable, leave a state of the actors, and it is sound.
 pub fn crashed_states_are_sound()
     ensures { CrashedStatesAreSound }
+{}
+
+/// A hold is repeated, a cut that is left held is dropped, a lock drops the older copy, and a crash loses the copy.
+pub fn cuts_go_on()
+    ensures { CutsGoOn }
+{}
+
+/// What ends a backup, what it ignores, and how much a piece has.
+pub fn backups_end()
+    ensures { BackupsEnd }
 {}
