@@ -13,3 +13,4 @@ pub mod ListLemmas
 pub mod CutLemmas
 pub mod LoadLemmas
 pub mod MiniLemmas
+pub mod PartLemmas

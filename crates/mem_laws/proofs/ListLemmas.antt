@@ -18,7 +18,7 @@ use Rattle.mem_laws.proofs.FloorLemmas.{found_in}
 
 -- ---- ascending lists of numbers
 
-abbrev Ascends : List ℕ → Type 0
+abbrev pub Ascends : List ℕ → Type 0
 Ascends [] = Unit {0}
 Ascends (x ∷ xs) = ((y : ℕ) → In y xs → x < y) × Ascends xs
 
@@ -35,12 +35,12 @@ sorted_in_ascends n (x ∷ xs) up = go (nat_lt x n) (n == x) refl refl (sorted_i
         let less : n < x = omega (arith, above, differ) in
         (λ y h. elim h [ inl e ↦ omega (arith, e, less) | inr old ↦ let next = up.0 y old in omega (arith, less, next) ], up)
 
-sorted_ascends : (xs : List ℕ) → Ascends (sorted xs)
+pub sorted_ascends : (xs : List ℕ) → Ascends (sorted xs)
 sorted_ascends [] = tt
 sorted_ascends (x ∷ xs) = sorted_in_ascends x (sorted xs) (sorted_ascends xs)
 
 -- ascending lists of the same numbers are the same
-same_ascending : (xs ys : List ℕ) → Ascends xs → Ascends ys → ((n : ℕ) → In n xs → In n ys) → ((n : ℕ) → In n ys → In n xs) → xs ≡ ys
+pub same_ascending : (xs ys : List ℕ) → Ascends xs → Ascends ys → ((n : ℕ) → In n xs → In n ys) → ((n : ℕ) → In n ys → In n xs) → xs ≡ ys
 same_ascending [] [] up down forth back = refl
 same_ascending [] (y ∷ ys) up down forth back = absurd (back y (inl refl))
 same_ascending (x ∷ xs) [] up down forth back = absurd (forth x (inl refl))

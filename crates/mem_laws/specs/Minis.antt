@@ -5,7 +5,7 @@ use Rattle.mini_tx.specs.declared.item.Item.{Item}
 use Rattle.mini_tx.specs.declared.placed_item.PlacedItem.{PlacedItem}
 use Rattle.mini_tx.specs.declared.tx_id.TxId.{TxId}
 use Rattle.mini_tx.specs.FlatMemory.{Flat, held_by, Matches, reads, after, IsWithin}
-use Rattle.mini_tx.specs.Minitransactions.{memory_of, is_write, refusal}
+use Rattle.mini_tx.specs.Minitransactions.{memory_of, is_write, refusal, TakePart}
 use Rattle.mem_node.specs.Items.{range_of, writes_of}
 use Rattle.tx_rules.specs.Mini as table
 use Rattle.tx_rules.specs.Mini.{In, Mini, IsMini, Memory, Setting, flat}
@@ -43,6 +43,10 @@ mini_of items =
 -- a valid minitransaction gives an entry that fits
 abbrev pub ValidMinisFit : Type 0
 ValidMinisFit = (items : List Item) (memories size : ℕ) → refusal items memories size ≡ None → IsMini (mini_of items)
+
+-- its participants are those that it has over byte lists
+abbrev pub ParticipantsAreTheTables : Type 0
+ParticipantsAreTheTables = (items : List Item) (numbers : List ℕ) → TakePart items numbers → numbers ≡ participants_of items
 
 -- where the table has it, each participant is told its own items
 abbrev pub MinisAreTold : Type 0

@@ -1,7 +1,7 @@
 //! Laws of a memory node's rules and of the machine's.
 ghost use Rattle.mem_laws.specs.Cuts.{ListsAreTheMachines, HeldCutsAreTheMachines, ListedCutsAreTheMachines, HoldsAreTheMachines, ReleasesAreTheMachines, DropsAreTheMachines, ReadsAreTheMachines};
 ghost use Rattle.mem_laws.specs.Loaded.{LoadedNodesShow};
-ghost use Rattle.mem_laws.specs.Minis.{ValidMinisFit, MinisAreTold, MinisMatchAlike, MinisReadAlike, MinisWriteAlike, FlatMemoriesAreAlike};
+ghost use Rattle.mem_laws.specs.Minis.{ParticipantsAreTheTables, ValidMinisFit, MinisAreTold, MinisMatchAlike, MinisReadAlike, MinisWriteAlike, FlatMemoriesAreAlike};
 ghost use Rattle.mem_laws.specs.Laws.{RulesAreTheMachines, VotesAreTheMachines, StatesAreTheMachines, DecisionsAreTheMachines, ForgettingIsTheMachines, AnswersAreTheMachines, DecisionsLeaveTheSame, ForgettingLeavesTheSame, AnswersLeaveTheSame, OthersLeaveIt, OpenedNodesShow};
 
 /// A memory node finds the rule that the machine finds.
@@ -127,4 +127,9 @@ pub fn minis_write_alike()
 /// The flat memory of cells is the one of bytes, at each place of the history.
 pub fn flat_memories_are_alike()
     ensures { FlatMemoriesAreAlike }
+{}
+
+/// The participants of a minitransaction over byte lists are those of its entry.
+pub fn participants_are_the_tables()
+    ensures { ParticipantsAreTheTables }
 {}

@@ -13,6 +13,7 @@ pub use laws::{
     forgetting_is_the_machines, forgetting_leaves_the_same, held_cuts_are_the_machines,
     holds_are_the_machines, listed_cuts_are_the_machines, lists_are_the_machines,
     loaded_nodes_show, minis_are_told, minis_match_alike, minis_read_alike, minis_write_alike,
-    opened_nodes_show, others_leave_it, reads_are_the_machines, releases_are_the_machines,
-    rules_are_the_machines, states_are_the_machines, valid_minis_fit, votes_are_the_machines,
+    opened_nodes_show, others_leave_it, participants_are_the_tables, reads_are_the_machines,
+    releases_are_the_machines, rules_are_the_machines, states_are_the_machines, valid_minis_fit,
+    votes_are_the_machines,
 };

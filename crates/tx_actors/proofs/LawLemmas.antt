@@ -1,7 +1,8 @@
 -- The laws.
-use Rattle.std.proofs.Common.{◌≡◌, ℕ, ◌+◌, ◌*◌, ◌/◌, ◌^◌, ◌==◌, Bool, true, false, cond, List, [], ◌∷◌, ◌++◌, length, Option, Some, None, unwrap_or, inl, inr, refl, sym, ap, ◌∙◌, subst, arith, append_assoc}
+use Rattle.std.proofs.Common.{◌≡◌, ℕ, ◌+◌, ◌*◌, ◌/◌, ◌^◌, ◌<◌, ◌==◌, Bool, true, false, cond, List, [], ◌∷◌, ◌++◌, length, Option, Some, None, unwrap_or, inl, inr, refl, sym, ap, ◌∙◌, subst, arith, append_assoc}
 use Rattle.std.proofs.lemmas.Bool.{eqb-true, eq-eqb, ne_eqb, cases_eq, cases_order, cases_Bool}
 use Rattle.std.proofs.lemmas.Nat.{div-mul-add}
+use Rattle.std.proofs.lemmas.List.{length-append}
 use Rattle.tx_rules.specs.Mini.{In, is_logged, Setting, nodes_of, reads_of, flat, with_writes}
 use Rattle.tx_rules.specs.Decision.{Record, Grant, Refuse, Commit, Abort, Forget, Entry, At, IsPassed}
 use Rattle.tx_rules.specs.World.{Message, Prepare, Granted, Looked, Refused, DecideCommit, DecideAbort, Done, Forgotten, ListKept, Kept, Ask, AnswerOk, AnswerAbort, World, Event, Begins, Grants, Completes, Refuses, Commits, Aborts, Forgets, Posts, after}
@@ -10,7 +11,7 @@ use Rattle.tx_rules.proofs.LawLemmas.{reads_are_flat, looks_had_their_moment, re
 use Rattle.tx_actors.specs.Node.{own, is_kept, Standing, Above, Same, Below, standing, replayed}
 use Rattle.tx_actors.specs.Coordinator.{Outcome, Committed, Failed, may_begin, begin}
 use Rattle.tx_actors.specs.Machine.{State, Input, Begin, ToNode, ToStoppingNode, ToCoordinator, ToManager, GiveUp, Resend, BootCoordinator, BootNode, Sweep, ResendManager, BootManager, numbered, idle, acts, to_node, to_coordinator, to_manager, step, steps, events_of, opened_at}
-use Rattle.tx_actors.specs.Laws.{StatesAreRuns, LooksHaveTheirMoment, FailuresHadTheirReason, BegunIsBelow, LiveAreNamedByAll, OutcomesStand, OutcomesStay, FailedNeverCommits, CommittedReadsAreFlat, LooksOfOutcomesAreFlat, ReactionsAreAllowed, UndecidedIsOpen, AboveIsNotPassed, FloorsAreGreatest, RecordsAreKept, ImagesAreReplayed}
+use Rattle.tx_actors.specs.Laws.{NumbersStay, StepsJoin, StatesAreRuns, LooksHaveTheirMoment, FailuresHadTheirReason, BegunIsBelow, LiveAreNamedByAll, OutcomesStand, OutcomesStay, FailedNeverCommits, CommittedReadsAreFlat, LooksOfOutcomesAreFlat, ReactionsAreAllowed, UndecidedIsOpen, AboveIsNotPassed, FloorsAreGreatest, RecordsAreKept, ImagesAreReplayed}
 use Rattle.tx_actors.specs.Numbers.{identifier, IdentifiersAreOrdered, IdentifiersTellTheirCoordinator}
 use Rattle.tx_actors.specs.Sample.{SampleEndsWell, MessagesMayDisagree}
 use Rattle.tx_actors.proofs.TestLemmas.{some_is, not_two}
@@ -73,6 +74,26 @@ numbered_split (q ∷ ps) k p h = go (length ps == k) refl (numbered_split ps k 
         → cond b (Some q) (numbered ps k) ≡ Some p → (later before : List Message) × (q ∷ ps ≡ later ++ p ∷ before) × (length before ≡ k)
     go true is rest e = ([], ps, ap (λ (x : Message). x ∷ ps) (some_is q p e), eqb-true (length ps) k is)
     go false is rest e = let it = rest e in (q ∷ it.0, it.1, ap (λ (xs : List Message). q ∷ xs) it.2, it.3)
+
+-- a number that is given is below how many were posted
+number_below : (ps : List Message) (k : ℕ) (p : Message) → numbered ps k ≡ Some p → k < length ps
+number_below ps k p h =
+    let it = numbered_split ps k p h in
+    let size = ap (λ (xs : List Message). length xs) it.2 ∙ length-append it.0 (p ∷ it.1) in
+    let here = it.3 in
+    omega (arith, size, here)
+
+pub numbers_stay : NumbersStay
+numbers_stay [] posted k p h = h
+numbers_stay (q ∷ later) posted k p h =
+    let below = number_below posted k p h in
+    let size = length-append later posted in
+    ap (λ (b : Bool). cond b (Some q) (numbered (later ++ posted) k)) (ne_eqb (length (later ++ posted)) k (λ e. omega (arith, e, below, size)))
+    ∙ numbers_stay later posted k p h
+
+pub steps_join : StepsJoin
+steps_join s st [] more = refl
+steps_join s st (x ∷ first) more = steps_join s (step s st x) first more
 
 pub looks_of_outcomes_are_flat : LooksOfOutcomesAreFlat
 looks_of_outcomes_are_flat s log image next o above inputs fitting t votes ended reader v counted =

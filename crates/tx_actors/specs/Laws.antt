@@ -137,3 +137,11 @@ AppendingMakes = (s : Setting) (m : ℕ) (w : World) (rs : List Record) → view
 
 abbrev pub OthersChangeNothing : Type 0
 OthersChangeNothing = (s : Setting) (m : ℕ) (w : World) (events : List Event) → AllElsewhere m events → view (after_all s w events) m ≡ view w m
+
+-- a message keeps its number when more are posted
+abbrev pub NumbersStay : Type 0
+NumbersStay = (later posted : List Message) (k : ℕ) (message : Message) → numbered posted k ≡ Some message → numbered (later ++ posted) k ≡ Some message
+
+-- inputs, and then more inputs
+abbrev pub StepsJoin : Type 0
+StepsJoin = (s : Setting) (st : State) (first more : List Input) → steps s st (first ++ more) ≡ steps s (steps s st first) more

@@ -1,6 +1,6 @@
 //! Laws of the actors of the transaction protocol.
 ghost use Rattle.tx_actors.specs.Headline.{FormattedClustersAreSerial};
-ghost use Rattle.tx_actors.specs.Laws.{StatesAreRuns, BegunIsBelow, OnePointAnInput, OutcomesStand, OutcomesStay, FailedNeverCommits, FailuresHadTheirReason, LooksHaveTheirMoment, LiveAreNamedByAll, CommittedReadsAreFlat, LooksOfOutcomesAreFlat, ReactionsAreAllowed, UndecidedIsOpen, AboveIsNotPassed, FloorsAreGreatest, RecordsAreKept, ImagesAreReplayed, AppendingMakes, OthersChangeNothing};
+ghost use Rattle.tx_actors.specs.Laws.{StatesAreRuns, BegunIsBelow, OnePointAnInput, OutcomesStand, OutcomesStay, FailedNeverCommits, FailuresHadTheirReason, LooksHaveTheirMoment, LiveAreNamedByAll, CommittedReadsAreFlat, LooksOfOutcomesAreFlat, ReactionsAreAllowed, UndecidedIsOpen, AboveIsNotPassed, FloorsAreGreatest, RecordsAreKept, ImagesAreReplayed, AppendingMakes, OthersChangeNothing, NumbersStay, StepsJoin};
 ghost use Rattle.tx_actors.specs.Numbers.{IdentifiersAreOrdered, IdentifiersTellTheirCoordinator};
 ghost use Rattle.tx_actors.specs.Sample.{SampleEndsWell, MessagesMayDisagree};
 ghost use Rattle.tx_actors.specs.Rows.{TwoPhases, Orphan, Lone};
@@ -159,4 +159,14 @@ pub fn manager_finishes()
 /// 32 identifiers are finishing at most, 64 at work, and 64 named in an answer to `list`.
 pub fn limits_are_kept()
     ensures { LimitsAreKept }
+{}
+
+/// A message keeps its number when more are posted.
+pub fn numbers_stay()
+    ensures { NumbersStay }
+{}
+
+/// Inputs behind inputs lead where both lead one after another.
+pub fn steps_join()
+    ensures { StepsJoin }
 {}

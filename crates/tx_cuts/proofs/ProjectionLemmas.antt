@@ -9,7 +9,7 @@ use Rattle.tx_cuts.specs.Cut.{CutMessage, Hold, HeldOk, HeldLocked, HeldPast, Re
 use Rattle.tx_cuts.specs.Holds.{cut_passed, any_undecided, is_of, on_hold, on_hold_stopping, on_release, on_drop, piece_bytes, on_read, on_list}
 use Rattle.tx_cuts.specs.Backup.{Phase, Holding, Reading, Backup, CutAct, reads_on, hear_held, hear_piece, running_hears, idle_hears, gives_up, posts_again, resends}
 use Rattle.tx_cuts.specs.Whole.{Whole, state_of, numbered_cut, Acts, CutToNode, CutToStoppingNode, Lists, CutToManager, BeginBackup, GiveUpBackup, ResendBackup, BootBackup, knowing, lost_in, handle_cut, handle_cut_stopping, manager_hears, with_events, with_act, begins_backup, whole_step}
-use Rattle.tx_cuts.specs.Laws.{acted, WholesAreStates}
+use Rattle.tx_cuts.specs.Laws.{acted, WholesAreStates, WholeStepsJoin}
 use Rattle.tx_cuts.proofs.HeldLemmas.{does_world}
 use Rattle.tx_cuts.proofs.WholeLemmas.{after_cuts_append}
 
@@ -228,3 +228,7 @@ wholes_are_states s size ms x (ResendBackup ∷ inputs) =
     wholes_are_states s size ms (whole_step s size ms x ResendBackup) inputs
     ∙ ap (λ (st : State). steps s st (acted s size ms (whole_step s size ms x ResendBackup) inputs)) (act_alone s size ms x (resends x.backup) (resends_cuts x.backup))
 wholes_are_states s size ms x (BootBackup ∷ inputs) = wholes_are_states s size ms (whole_step s size ms x BootBackup) inputs
+
+pub whole_steps_join : WholeStepsJoin
+whole_steps_join s size ms x [] more = refl
+whole_steps_join s size ms x (input ∷ first) more = whole_steps_join s size ms (whole_step s size ms x input) first more

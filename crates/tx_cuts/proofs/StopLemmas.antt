@@ -8,9 +8,9 @@ use Rattle.tx_actors.specs.Node.{View, view, after_records, handle}
 use Rattle.tx_actors.specs.Machine.{event_of, appending, State, numbered, to_node, step, steps, events_of, opened_at}
 use Rattle.tx_actors.specs.Laws.{IsFitting}
 use Rattle.tx_actors.proofs.AlikeLemmas.{alike_same, alike_self, alike_after_all, all_elsewhere}
-use Rattle.tx_actors.proofs.LawLemmas.{states_are_runs}
+use Rattle.tx_actors.proofs.LawLemmas.{states_are_runs, steps_join}
 use Rattle.tx_actors.proofs.NodeLemmas.{after_append}
-use Rattle.tx_cuts.specs.Sound.{IsSoundFor, StatesAreSound, StepsJoin, Stop, stopping, AreApartStops, stopped_with, CrashedStatesAreSound}
+use Rattle.tx_cuts.specs.Sound.{IsSoundFor, StatesAreSound, Stop, stopping, AreApartStops, stopped_with, CrashedStatesAreSound}
 use Rattle.tx_cuts.proofs.CrashLemmas.{record_begun, record_posted, appending_elsewhere}
 use Rattle.tx_cuts.proofs.SoundnessLemmas.{runs_are_sound}
 
@@ -18,10 +18,6 @@ pub states_are_sound : StatesAreSound
 states_are_sound s log image next o above inputs fitting =
     let r = states_are_runs s log image next o above inputs fitting in
     subst (λ (w : World). IsSoundFor s w.log w.image (flat s w.points)) (sym r.1) (runs_are_sound s log image o (events_of s (opened_at s log image next) inputs) r.0)
-
-pub steps_join : StepsJoin
-steps_join s st [] more = refl
-steps_join s st (x ∷ first) more = steps_join s (step s st x) first more
 
 -- ---- records that are appended
 

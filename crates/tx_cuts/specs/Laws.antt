@@ -138,6 +138,11 @@ acted s size ms x [] = []
 acted s size ms x (Acts input ∷ inputs) = knowing x.cuts input ∷ acted s size ms (whole_step s size ms x (Acts input)) inputs
 acted s size ms x (input ∷ inputs) = acted s size ms (whole_step s size ms x input) inputs
 
+-- inputs, and then more inputs
+abbrev pub WholeStepsJoin : Type 0
+WholeStepsJoin = (s : Setting) (size : ℕ) (ms : List ℕ) (x : Whole) (first more : List WholeInput)
+    → whole_steps s size ms x (first ++ more) ≡ whole_steps s size ms (whole_steps s size ms x first) more
+
 -- without its cuts the whole is a state of the transactions: so all that holds of those holds beside backups
 abbrev pub WholesAreStates : Type 0
 WholesAreStates = (s : Setting) (size : ℕ) (ms : List ℕ) (x : Whole) (inputs : List WholeInput)

@@ -78,10 +78,6 @@ CrashImagesAreSound = AlwaysHolds (λ s w. (durable : List (ℕ × List Record))
 abbrev pub StatesAreSound : Type 0
 StatesAreSound = AlwaysReached (λ s st. IsSoundFor s st.world.log st.world.image (flat s st.world.points))
 
--- inputs, and then more inputs
-abbrev pub StepsJoin : Type 0
-StepsJoin = (s : Setting) (st : State) (first more : List Input) → steps s st (first ++ more) ≡ steps s (steps s st first) more
-
 -- a memory node stops in handling the message with this number, while it holds this cut or none, when its records are
 -- durable
 pub record Stop : Type 0 where

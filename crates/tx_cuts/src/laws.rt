@@ -1,6 +1,6 @@
 //! Laws of cuts, openings and crashes.
-ghost use Rattle.tx_cuts.specs.Laws.{CutRunsAreRuns, CopiesAreFlat, CutPromisesAreKept, CutsAreMadeOnce, HoldsAreStill, HeldVotesWereHeld, OpensAgain, RecordsMayWait, CrashImagesAreReached, WholesAreCutRuns, WholesAreStates, BackupsAreFlat};
-ghost use Rattle.tx_cuts.specs.Sound.{SoundOpens, RunsAreSound, CrashImagesAreSound, StatesAreSound, StepsJoin, CrashedStatesAreSound};
+ghost use Rattle.tx_cuts.specs.Laws.{CutRunsAreRuns, CopiesAreFlat, CutPromisesAreKept, CutsAreMadeOnce, HoldsAreStill, HeldVotesWereHeld, OpensAgain, RecordsMayWait, CrashImagesAreReached, WholesAreCutRuns, WholesAreStates, WholeStepsJoin, BackupsAreFlat};
+ghost use Rattle.tx_cuts.specs.Sound.{SoundOpens, RunsAreSound, CrashImagesAreSound, StatesAreSound, CrashedStatesAreSound};
 ghost use Rattle.tx_cuts.specs.Cases.{CutsGoOn, BackupsEnd};
 ghost use Rattle.tx_cuts.specs.Sample.{BackupEndsWell, OpeningEndsWell};
 
@@ -95,8 +95,8 @@ pub fn states_are_sound()
 {}
 
 /// Inputs behind inputs lead where both lead one after another.
-pub fn steps_join()
-    ensures { StepsJoin }
+pub fn whole_steps_join()
+    ensures { WholeStepsJoin }
 {}
 
 /// Memory nodes that crash together, each with its records durable, leave a state of the actors, and it is sound.
