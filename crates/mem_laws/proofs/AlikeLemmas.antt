@@ -37,6 +37,7 @@ module _ (s : Setting) (m : ℕ) where
               vote = vote_alike v (record { records = v.records; image = u.image; seen = u.seen }) k.id k.vote (alike.seen (number k.id)) shown.vote;
               participants = shown.participants;
               undecided = shown.undecided;
+              decision = shown.decision;
               locked = shown.locked;
               written = shown.written;
             };

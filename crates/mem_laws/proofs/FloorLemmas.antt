@@ -141,6 +141,7 @@ module _ (s : Setting) (m : ℕ) (n : node.Node) (v : machine.View) (id : TxId) 
                   vote = shown.vote;
                   participants = shown.participants;
                   undecided = shown.undecided;
+                  decision = λ commit is. inr (shown.decision commit is);
                   locked = shown.locked;
                   written = shown.written;
                 };

@@ -1,5 +1,5 @@
 -- What decisions and forgetting leave shows in the machine again.
-use Rattle.std.proofs.Common.{◌≡◌, ℕ, ◌==◌, Bool, true, false, not, cond, ◌&&◌, ◌||◌, List, [], ◌∷◌, map, filter, length, Option, Some, None, is_some, unwrap_or, refl, sym, ap, subst, ◌∙◌}
+use Rattle.std.proofs.Common.{◌≡◌, ℕ, ◌==◌, Bool, true, false, not, cond, ◌&&◌, ◌||◌, List, [], ◌∷◌, map, filter, length, Option, Some, None, is_some, unwrap_or, inl, inr, refl, sym, ap, subst, ◌∙◌}
 use Rattle.std.proofs.lemmas.Bool.{and_parts, and_right, eq-eqb, eqb-true, not_from_false, false_from_ne_true, not-true}
 use Rattle.mini_tx.specs.declared.entry.Entry.{Entry}
 use Rattle.mini_tx.specs.declared.entry.Entry.TheVariants as entry
@@ -23,7 +23,7 @@ use Rattle.tx_actors.specs.Node.{after_record, after_records}
 use Rattle.tx_actors.proofs.AlikeLemmas.{alike_after_all, alike_self}
 use Rattle.tx_actors.proofs.TestLemmas.{In-filter, In-map, filter-In, map-In, not_two}
 use Rattle.mem_laws.specs.Cells.{number, cells_from, written_in}
-use Rattle.mem_laws.specs.Shown.{AreDistinct, IsShownRecord, Shows, records_of}
+use Rattle.mem_laws.specs.Shown.{AreDistinct, decision_on, IsShownRecord, Shows, records_of}
 use Rattle.mem_laws.specs.Laws.{IsNamed, DecisionsLeaveTheSame, ForgettingLeavesTheSame, AnswersLeaveTheSame}
 use Rattle.mem_laws.proofs.AlikeLemmas.{shows_alike}
 use Rattle.mem_laws.proofs.CellLemmas.{number_same, sameness_is}
@@ -32,6 +32,9 @@ use Rattle.mem_laws.proofs.FloorLemmas.{same_self, refused_state}
 use Rattle.mem_laws.proofs.ImageLemmas.{AreWritesWithin, same_size, length_written, image_after, map_alike}
 use Rattle.mem_laws.proofs.RuleLemmas.{find-In}
 use Rattle.mem_laws.proofs.WantLemmas.{IsImage}
+
+one_bool : (a b : Bool) → ◌≡◌ {A = Option Bool} (Some a) (Some b) → a ≡ b
+one_bool a b e = cc
 
 -- ---- distinct records
 
@@ -119,6 +122,7 @@ module _ (s : Setting) (m : ℕ) (n : node.Node) (v : machine.View) (id : TxId) 
 
     -- what the record does to what is found in the log
     pub record IsDecision : Type 0 where
+      pub logged : r ≡ decision_on t commit
       pub floors : (c : ℕ) → machine.floor_of s (r ∷ v.records) c ≡ machine.floor_of s v.records c
       pub kept : (u : ℕ) → machine.is_kept s m (r ∷ v.records) u ≡ machine.is_kept s m v.records u
       pub undecided : (u : ℕ) → machine.is_undecided (r ∷ v.records) u ≡ (machine.is_undecided v.records u && not (t == u))
@@ -142,6 +146,7 @@ module _ (s : Setting) (m : ℕ) (n : node.Node) (v : machine.View) (id : TxId) 
             undecided =
                 is.undecided (number k.id)
                 ∙ and_right (machine.is_undecided v.records (number k.id)) (not (t == number k.id)) (ap not (eq-eqb t (number k.id) (sym (number_same k.id id same))));
+            decision = λ made is_made. inl (ap (decision_on (number k.id)) (sym (one_bool commit made is_made)) ∙ ap (λ u. decision_on u commit) (number_same k.id id same) ∙ sym is.logged);
             locked = λ never. absurd cc;
             written = λ never. absurd cc;
           }
@@ -156,6 +161,7 @@ module _ (s : Setting) (m : ℕ) (n : node.Node) (v : machine.View) (id : TxId) 
                 (false_from_ne_true (t == number k.id) (λ alike.
                 let one : is_same k.id id ≡ true = sym (sameness_is k.id id before.typed named.typed) ∙ eq-eqb (number k.id) t (sym (eqb-true t (number k.id) alike)) in absurd cc))
                 ∙ before.undecided;
+            decision = λ made is_made. inr (before.decision made is_made);
             locked = before.locked;
             written = before.written;
           }
@@ -200,6 +206,7 @@ module _ (s : Setting) (m : ℕ) (n : node.Node) (v : machine.View) (id : TxId) 
   decided_state true k is open_ =
       subst (λ (o : Option Kept). Shows s m (record n.state { kept = map (decided id true) n.state.kept; image = committed true n.state.image (writes_kept o) }) (after_record s m v (Commit t))) (sym is)
       (decided_shows true (Commit t) (written n.state.image k.writes) (λ a. unwrap_or ((s.mini t).writes m a) (v.image a)) record {
+        logged = refl;
         floors = λ c. refl;
         kept = λ u. refl;
         undecided = λ u. still_open (t == u) (machine.has_grant v.records u) (machine.has_decision v.records u);
@@ -218,6 +225,7 @@ module _ (s : Setting) (m : ℕ) (n : node.Node) (v : machine.View) (id : TxId) 
       within = named.shows.within k there.0
   decided_state false k is open_ =
       decided_shows false (Abort t) n.state.image v.image record {
+        logged = refl;
         floors = λ c. refl;
         kept = λ u. refl;
         undecided = λ u. still_open (t == u) (machine.has_grant v.records u) (machine.has_decision v.records u);
@@ -279,6 +287,7 @@ module _ (s : Setting) (m : ℕ) (n : node.Node) (v : machine.View) (id : TxId) 
               vote = shown.vote;
               participants = shown.participants;
               undecided = shown.undecided;
+              decision = λ commit made. inr (shown.decision commit made);
               locked = shown.locked;
               written = shown.written;
             };

@@ -17,7 +17,7 @@ use Rattle.tx_actors.proofs.RecordLemmas.{has_grant-In, In-has_grant, has_forget
 use Rattle.tx_actors.proofs.TestLemmas.{not_two}
 use Rattle.mem_laws.specs.Cells.{number}
 use Rattle.mem_laws.specs.Loaded.{records_of_decision, records_of_kept, records_of_vote, records_of_floor, records_of_floors, records_of_all, records_of_state, IsLoaded, LoadedNodesShow}
-use Rattle.mem_laws.specs.Shown.{reason_of, shown_floor, AreDistinct}
+use Rattle.mem_laws.specs.Shown.{reason_of, shown_floor, decision_on, AreDistinct}
 use Rattle.mem_laws.proofs.CellLemmas.{same_tests, number_same, sameness_is}
 use Rattle.mem_laws.proofs.ImageLemmas.{bytes_of_cells}
 use Rattle.mem_laws.proofs.RuleLemmas.{find-In}
@@ -358,6 +358,14 @@ module _ (s : Setting) (m : ℕ) (state : State) (loaded : IsLoaded s m state) w
         | inr a ↦ inr (of_record (Abort (number k.id)) k h a)
       ]))
 
+  -- a kept record's decision is logged
+  decision_is : (k : Kept) → In k state.kept → (commit : Bool) → k.decision ≡ Some commit → In (decision_on (number k.id) commit) rs
+  decision_is k h commit made = of_record (decision_on (number k.id) commit) k h (go commit made)
+    where
+      go : (b : Bool) → k.decision ≡ Some b → In (decision_on (number k.id) b) (records_of_kept k)
+      go true e = subst (λ (o : Option Bool). In (Commit (number k.id)) (records_of_decision (number k.id) o ++ Grant (number k.id) ∷ [])) (sym e) (inl refl)
+      go false e = subst (λ (o : Option Bool). In (Abort (number k.id)) (records_of_decision (number k.id) o ++ Grant (number k.id) ∷ [])) (sym e) (inl refl)
+
   open_is : (t : ℕ) → machine.is_undecided rs t ≡ true → (k : Kept) × In k state.kept × (number k.id ≡ t)
   open_is t is =
       let both = and_parts (machine.has_grant rs t) _ is in
@@ -402,6 +410,7 @@ loaded_nodes_show s m state seen loaded = record {
         vote = λ granted fresh. absurd (l.known fresh);
         participants = l.participants;
         undecided = undecided_is s m state loaded k h;
+        decision = decision_is s m state loaded k h;
         locked = l.locked;
         written = l.written;
       };

@@ -178,6 +178,7 @@ module _ (s : Setting) (m : ℕ) (n : node.Node) (v : machine.View) (id : TxId) 
               undecided =
                   ap (λ b. (b || machine.has_grant v.records (number k.id)) && not (b || machine.has_decision v.records (number k.id))) (other_test (number k.id) other)
                   ∙ shown.undecided;
+              decision = λ commit is. inr (inr (shown.decision commit is));
               locked = shown.locked;
               written = shown.written;
             };
@@ -275,6 +276,7 @@ module _ (s : Setting) (m : ℕ) (n : node.Node) (v : machine.View) (id : TxId) 
             vote = vote_alike s m v view_kept k.id k.vote (seen_before (number k.id) other) shown.vote;
             participants = shown.participants;
             undecided = ap (λ b. (b || machine.has_grant v.records (number k.id)) && not (machine.has_decision v.records (number k.id))) (other_test (number k.id) other) ∙ shown.undecided;
+            decision = λ commit is. inr (shown.decision commit is);
             locked = shown.locked;
             written = shown.written;
           }
@@ -289,6 +291,7 @@ module _ (s : Setting) (m : ℕ) (n : node.Node) (v : machine.View) (id : TxId) 
             undecided =
                 ap (λ b. (b || machine.has_grant v.records t) && not (machine.has_decision v.records t)) (eq-eqb t t refl)
                 ∙ not_from_false (machine.has_decision v.records t) (never_decided above).0;
+            decision = λ commit is. absurd cc;
             locked = λ is. asked.told.touched;
             written = λ is. asked.told.written;
           }

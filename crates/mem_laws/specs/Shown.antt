@@ -1,5 +1,5 @@
 -- How what a memory node has, and what it does, shows in the machine of the transaction protocol.
-use Rattle.std.specs.Prelude.{◌≡◌, ◌≤◌, ◌+◌, ℕ, Bool, ◌||◌, true, List, [], ◌∷◌, length, map, Option, Some, None, is_some, option_map, if◌then◌else◌, ⊤}
+use Rattle.std.specs.Prelude.{◌≡◌, ◌≤◌, ◌+◌, ℕ, Bool, ◌||◌, true, false, List, [], ◌∷◌, length, map, Option, Some, None, is_some, option_map, if◌then◌else◌, ⊤}
 use Rattle.std.specs.List.{AllByRecursion}
 use Rattle.mini_tx.specs.declared.entry.Entry.{Entry}
 use Rattle.mini_tx.specs.declared.entry.Entry.TheVariants as entry
@@ -66,14 +66,20 @@ abbrev pub IsShownVote : Setting → ℕ → machine.View → TxId → Vote → 
 IsShownVote s m v id x =
     is_granted x ≡ true → IsFresh s (number id) → (is_logged (s.mini (number id)) ≡ true) × (bytes_of x ≡ reads_of s (number id) m (v.seen (number id)))
 
--- a kept record: a Granted vote, with the participants that the machine's record names, and until it is decided with
--- ranges that are the locked cells, and with the writes
+-- the record of a decision
+abbrev pub decision_on : ℕ → Bool → Record
+decision_on t true = Commit t
+decision_on t false = Abort t
+
+-- a kept record: a Granted vote, with the participants that the machine's record names, and with the decision that is
+-- logged; and until it is decided with ranges that are the locked cells, and with the writes
 pub record IsShownRecord (s : Setting) (m : ℕ) (v : machine.View) (k : Kept) : Type 0 where
   pub typed : IsTypedId k.id
   pub granted : is_granted k.vote ≡ true
   pub vote : IsShownVote s m v k.id k.vote
   pub participants : k.participants ≡ participants_at s m (number k.id)
   pub undecided : machine.is_undecided v.records (number k.id) ≡ node.is_undecided k
+  pub decision : (commit : Bool) → k.decision ≡ Some commit → In (decision_on (number k.id) commit) v.records
   pub locked : node.is_undecided k ≡ true → cells_of s (number k.id) m ≡ cells_in k.ranges
   pub written : node.is_undecided k ≡ true → (a : ℕ) → (s.mini (number k.id)).writes m a ≡ written_in k.writes a
 

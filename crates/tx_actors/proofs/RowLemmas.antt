@@ -4,7 +4,7 @@ use Rattle.tx_actors.specs.Cases.{CoordinatorFinishes, CoordinatorRepeats, Manag
 use Rattle.tx_actors.specs.Rows.{TwoPhases, Orphan, Lone}
 
 pub two_phases : TwoPhases
-two_phases = record { locked = refl; point = refl; outcomes = refl; forced = refl; log = refl }
+two_phases = record { locked = refl; point = refl; outcomes = refl; forced = refl; again = refl; log = refl }
 
 pub orphan : Orphan
 orphan = record { points = refl; first = refl; second = refl; none = refl; none_too = refl }
@@ -16,7 +16,7 @@ pub coordinator_finishes : CoordinatorFinishes
 coordinator_finishes = record { decided = refl; outcome = refl; finishing = refl; waits = refl; forgets = refl; finished = refl; log = refl; kept = refl }
 
 pub coordinator_repeats : CoordinatorRepeats
-coordinator_repeats = record { prepare = refl; next = refl; posted = refl; running = refl; outcomes = refl; decision = refl; lost = refl }
+coordinator_repeats = record { prepare = refl; next = refl; posted = refl; running = refl; outcomes = refl; decision = refl; lost = refl; once = refl }
 
 pub manager_finishes : ManagerFinishes
 manager_finishes = record {

@@ -60,6 +60,10 @@ resent_state = steps sample_setting decided_state (Resend 0 ∷ [])
 abbrev pub booted_state : State
 booted_state = steps sample_setting decided_state (BootCoordinator 0 ∷ Resend 0 ∷ [])
 
+-- a number that was begun does not begin again, after giving up and after a crash
+abbrev pub begun_once_state : State
+begun_once_state = from_fresh (Begin 1 ∷ GiveUp 0 ∷ Begin 1 ∷ BootCoordinator 0 ∷ Begin 1 ∷ [])
+
 -- what was given up has no outcome and is not posted again
 pub record CoordinatorRepeats : Type 0 where
   pub prepare : numbered given_up_state.world.posted 2 ≡ Some (Prepare 1)
@@ -69,6 +73,7 @@ pub record CoordinatorRepeats : Type 0 where
   pub outcomes : given_up_state.outcomes ≡ []
   pub decision : numbered resent_state.world.posted 4 ≡ Some (DecideCommit 1)
   pub lost : length booted_state.world.posted ≡ 4
+  pub once : length begun_once_state.world.posted ≡ 1
 
 -- ---- the manager
 

@@ -55,12 +55,18 @@ pair_state =
 abbrev pub pair_end : State
 pair_end = steps pair_setting pair_state (ToCoordinator 5 ∷ ToCoordinator 1 ∷ ToNode 4 0 None ∷ ToNode 2 0 None ∷ [])
 
--- the reader is locked out by the writer, and its late `prepare` finds it forced; the writer has its point
+-- the reader's `prepare` comes to memory node 1 once more, where the lock is free by then
+abbrev pub pair_again : State
+pair_again = steps pair_setting pair_end (ToNode 3 1 None ∷ ToNode 7 1 None ∷ ToNode 2 1 None ∷ [])
+
+-- the reader is locked out by the writer, and its late `prepare` finds it forced; the writer has its point; and a vote
+-- that is sent again tells its reason of then
 pub record TwoPhases : Type 0 where
   pub locked : numbered pair_state.world.posted 3 ≡ Some (Refused 1 101 (Locked 1))
   pub point : pair_state.world.points ≡ 1 ∷ []
   pub outcomes : pair_end.outcomes ≡ Committed 1 ((1, []) ∷ (0, []) ∷ []) ∷ Failed 101 1 (Locked 1) ∷ []
   pub forced : numbered pair_end.world.posted 8 ≡ Some (Refused 0 101 (Forced 101))
+  pub again : numbered pair_again.world.posted 9 ≡ Some (Refused 1 101 (Locked 1))
   pub log : pair_end.world.log
       ≡ At 0 (Refuse 101 (Forced 101)) ∷ At 0 (Grant 1) ∷ At 1 (Refuse 101 (Locked 1)) ∷ At 1 (Grant 1) ∷ []
 

@@ -3,7 +3,7 @@ use Rattle.std.proofs.Common.{refl}
 use Rattle.tx_cuts.specs.Cases.{CutsGoOn, BackupsEnd}
 
 pub cuts_go_on : CutsGoOn
-cuts_go_on = record { unmade = refl; again = refl; held_again = refl; still = refl; dropped = refl; sent = refl; idle = refl; gone = refl; locked = refl; older = refl; other = refl; lost = refl }
+cuts_go_on = record { unmade = refl; again = refl; held_again = refl; still = refl; dropped = refl; sent = refl; idle = refl; gone = refl; locked = refl; older = refl; other = refl; lost = refl; booted = refl; stopped = refl }
 
 pub backups_end : BackupsEnd
 backups_end = record {

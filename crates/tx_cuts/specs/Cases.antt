@@ -1,6 +1,6 @@
 -- What memory nodes and the manager do about cuts beside the safe rules, by computing.
 use Rattle.std.specs.Prelude.{◌≡◌, ◌*◌, true, false, List, [], ◌∷◌, length, Some, None}
-use Rattle.tx_actors.specs.Machine.{Begin, ToNode}
+use Rattle.tx_actors.specs.Machine.{Begin, ToNode, ToStoppingNode, BootNode}
 use Rattle.tx_actors.specs.Sample.{sample_setting}
 use Rattle.tx_cuts.specs.Cut.{Hold, HeldOk, HeldLocked, HeldPast, Drop, Read, Piece, PieceNone, StillHeld, Copy, Releases, Loses, Sends}
 use Rattle.tx_cuts.specs.Holds.{is_of, held_cut, on_release, on_drop, piece_bytes, on_list}
@@ -42,6 +42,8 @@ pub record CutsGoOn : Type 0 where
   pub older : is_of 1 (locked_cut.cuts.copies 0) ≡ false
   pub other : held_cut (held_whole.cuts.copies 1) ≡ Some 1
   pub lost : held_cut ((more_cuts held_whole (CutToStoppingNode 0 1 ∷ [])).cuts.copies 1) ≡ None
+  pub booted : held_cut ((more_cuts held_whole (Acts (BootNode 1) ∷ [])).cuts.copies 1) ≡ None
+  pub stopped : held_cut ((more_cuts held_whole (Acts (ToStoppingNode 0 1 None) ∷ [])).cuts.copies 1) ≡ None
 
 -- a backup that holds, and one that reads its second piece of memory node 0
 abbrev pub holds_two : Backup
