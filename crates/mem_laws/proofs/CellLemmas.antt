@@ -12,7 +12,7 @@ use Rattle.mem_node.specs.Identifiers.{precedes, is_same}
 use Rattle.mem_node.specs.Rules.{meet}
 use Rattle.tx_rules.specs.Mini.{In}
 use Rattle.tx_rules.proofs.FaithfulLemmas.{in_front, in_back, in_either}
-use Rattle.tx_actors.specs.Tests as tests
+use Rattle.tx_rules.specs.Lists as tests
 use Rattle.tx_actors.proofs.LawLemmas.{identifiers_are_ordered}
 use Rattle.tx_actors.proofs.TestLemmas.{is_in-In, overlap-none}
 use Rattle.mem_laws.specs.Cells.{number, cells_from, cells_in}
@@ -93,7 +93,7 @@ in_from at (suc n) c h = elim h [
   | inr rest ↦ let r = in_from (at + 1) n c rest in (omega (arith, r), omega (arith, r))
 ]
 
-from_in : (at n c : ℕ) → at ≤ c → c < at + n → In c (cells_from at n)
+pub from_in : (at n c : ℕ) → at ≤ c → c < at + n → In c (cells_from at n)
 from_in at zero c low high = absurd (omega arith)
 from_in at (suc n) c low high = elim (cases_eq c at) [
   | inl e ↦ inl e

@@ -4,6 +4,8 @@ use Rattle.std.proofs.lemmas.Bool.{and_parts, false_from_ne_true}
 use Rattle.mini_tx.specs.declared.entry.Entry.TheVariants as entry
 use Rattle.mini_tx.specs.declared.message.Message.TheVariants as sent
 use Rattle.mini_tx.specs.declared.tx_id.TxId.{TxId}
+use Rattle.mini_tx.specs.declared.vote.Vote.{Vote}
+use Rattle.mini_tx.specs.declared.vote.Vote.TheVariants as vote
 use Rattle.mini_tx.specs.EntryGrammar.{is_granted}
 use Rattle.mem_node.specs.declared.floor.Floor.{Floor}
 use Rattle.mem_node.specs.declared.kept.Kept.{Kept}
@@ -19,7 +21,7 @@ use Rattle.tx_actors.specs.Node as machine
 use Rattle.tx_actors.proofs.RecordLemmas.{has_grant-In, standing_is, StandsSo}
 use Rattle.tx_actors.proofs.TestLemmas.{not_two}
 use Rattle.mem_laws.specs.Cells.{number}
-use Rattle.mem_laws.specs.Shown.{shown_floor, IsSameReaction}
+use Rattle.mem_laws.specs.Shown.{reason_of, shown_floor, IsSameReaction}
 use Rattle.mem_laws.specs.Laws.{IsNamed, DecisionsAreTheMachines, ForgettingIsTheMachines, AnswersAreTheMachines}
 use Rattle.mem_laws.proofs.CellLemmas.{order_is, sameness_is, number_same}
 use Rattle.mem_laws.proofs.RuleLemmas.{find-In}
@@ -28,8 +30,8 @@ use Rattle.mem_laws.proofs.FloorLemmas.{found_in}
 -- an identifier stands to its floor as its number does
 abbrev IsShownStanding : Standing → machine.Standing → Type 0
 IsShownStanding Above x = x ≡ machine.Above
-IsShownStanding (At vote) x = x ≡ machine.Same (is_granted vote)
-IsShownStanding (Below floor) x = x ≡ machine.Below
+IsShownStanding (At vote) x = x ≡ machine.Same (reason_of vote)
+IsShownStanding (Below floor) x = x ≡ machine.Below (number floor)
 
 module _ (s : Setting) (m : ℕ) (n : node.Node) (v : machine.View) (id : TxId) (named : IsNamed s m n.state v id) where
   abbrev t : ℕ
@@ -45,7 +47,7 @@ module _ (s : Setting) (m : ℕ) (n : node.Node) (v : machine.View) (id : TxId) 
       (subst (λ x. G (precedes f.id id) (is_same f.id id) (precedes f.id id) x) (sym (sameness_is f.id id typed named.typed)) (go (precedes f.id id) (is_same f.id id)))
     where
       G : Bool → Bool → Bool → Bool → Type 0
-      G a b c d = IsShownStanding (cond a Above (cond b (At f.vote) (Below f.id))) (cond c machine.Above (cond d (machine.Same (is_granted f.vote)) machine.Below))
+      G a b c d = IsShownStanding (cond a Above (cond b (At f.vote) (Below f.id))) (cond c machine.Above (cond d (machine.Same (reason_of f.vote)) (machine.Below (number f.id))))
 
       go : (a b : Bool) → G a b a b
       go true b = refl
@@ -61,33 +63,33 @@ module _ (s : Setting) (m : ℕ) (n : node.Node) (v : machine.View) (id : TxId) 
   not_above : machine.has_grant v.records t ≡ true → machine.standing s v.records t ≡ machine.Above → ⊥
   not_above granted is =
       let below = subst (StandsSo s v.records t) is (standing_is s v.records t) in
-      let less = below t (true, has_grant-In v.records t granted) refl in
+      let less = below t (None, has_grant-In v.records t granted) refl in
       omega (arith, less)
 
   no_force : (x : machine.Standing) → (x ≡ machine.Above → ⊥) → machine.forced t x ≡ []
   no_force machine.Above never = absurd (never refl)
   no_force (machine.Same vote) never = refl
-  no_force machine.Below never = refl
+  no_force (machine.Below floor) never = refl
 
   -- ---- the record
 
   -- what is known of the kept record
   pub record IsFound (k : Kept) : Type 0 where
-    pub kept : machine.is_kept s v.records t ≡ true
+    pub kept : machine.is_kept s m v.records t ≡ true
     pub granted : machine.has_grant v.records t ≡ true
     pub undecided : machine.is_undecided v.records t ≡ node.is_undecided k
 
   pub found : (k : Kept) → kept_of n.state.kept id ≡ Some k → IsFound k
   found k is =
       let there = find-In (λ (x : Kept). is_same x.id id) k n.state.kept is in
-      let kept : machine.is_kept s v.records t ≡ true = named.shows.kept id named.typed ∙ ap (λ (o : Option Kept). is_some o) is in
+      let kept : machine.is_kept s m v.records t ≡ true = named.shows.kept id named.typed ∙ ap (λ (o : Option Kept). is_some o) is in
       record {
         kept = kept;
         granted = (and_parts (machine.has_grant v.records t) _ kept).0;
         undecided = ap (machine.is_undecided v.records) (sym (number_same k.id id there.1)) ∙ (named.shows.records k there.0).undecided;
       }
 
-  unkept : kept_of n.state.kept id ≡ None → machine.is_kept s v.records t ≡ false
+  unkept : kept_of n.state.kept id ≡ None → machine.is_kept s m v.records t ≡ false
   unkept is = named.shows.kept id named.typed ∙ ap (λ (o : Option Kept). is_some o) is
 
   none_undecided : kept_of n.state.kept id ≡ None → machine.is_undecided v.records t ≡ false
@@ -95,7 +97,7 @@ module _ (s : Setting) (m : ℕ) (n : node.Node) (v : machine.View) (id : TxId) 
       let there = named.shows.undecided t undecided in
       let k = there.0 in
       let kept = named.shows.kept k.id (named.shows.records k there.1).typed ∙ found_in k n.state.kept there.1 in
-      not_two (machine.is_kept s v.records t) (ap (machine.is_kept s v.records) (sym there.2) ∙ kept) (unkept is))
+      not_two (machine.is_kept s m v.records t) (ap (machine.is_kept s m v.records) (sym there.2) ∙ kept) (unkept is))
 
   -- ---- decide
 
@@ -134,7 +136,7 @@ module _ (s : Setting) (m : ℕ) (n : node.Node) (v : machine.View) (id : TxId) 
 
   -- ---- forget
 
-  forgets : (kept : Option Kept) → kept_of n.state.kept id ≡ kept → IsSameReaction (node.on_forget n id kept) (machine.on_forget s v t) None []
+  forgets : (kept : Option Kept) → kept_of n.state.kept id ≡ kept → IsSameReaction (node.on_forget n id kept) (machine.on_forget s m v t) None []
   forgets (Some k) is = go (node.is_undecided k) (machine.has_decision v.records t) undecided
     where
       undecided : not (machine.has_decision v.records t) ≡ node.is_undecided k
@@ -142,7 +144,7 @@ module _ (s : Setting) (m : ℕ) (n : node.Node) (v : machine.View) (id : TxId) 
 
       go : (b d : Bool) → not d ≡ b
           → IsSameReaction (cond b (node.silent n) (record { entry = Some (entry.Forgotten id); answer = None; copy = n.copy }))
-          (record { appends = cond (machine.is_kept s v.records t && d) (Forget t ∷ []) []; posts = [] }) None []
+          (record { appends = cond (machine.is_kept s m v.records t && d) (Forget t ∷ []) []; posts = [] }) None []
       go true false e = record { answered = refl; appended = ap (λ b. cond (b && false) (Forget t ∷ []) []) (found k is).kept; posted = refl }
       go false true e = record { answered = refl; appended = ap (λ b. cond (b && true) (Forget t ∷ []) []) (found k is).kept; posted = refl }
       go true true e = absurd cc
@@ -162,13 +164,16 @@ module _ (s : Setting) (m : ℕ) (n : node.Node) (v : machine.View) (id : TxId) 
       subst (λ b. Answers (node.by_floor_asked n id (node.standing n.state id)) (cond b (machine.answers (AnswerOk m t)) (machine.answers_by_floor m t (machine.standing s v.records t)))) (sym (unkept is))
       (go (node.standing n.state id) (machine.standing s v.records t) stands)
     where
-      by_vote : (b : Bool) → Answers (node.answers n (sent.Answer id b)) (machine.answers_by_floor m t (machine.Same b))
-      by_vote true = (true, record { answered = refl; appended = refl; posted = refl })
-      by_vote false = (false, record { answered = refl; appended = refl; posted = refl })
+      by_vote : (x : Vote) → Answers (node.answers n (sent.Answer id (is_granted x))) (machine.answers_by_floor m t (machine.Same (reason_of x)))
+      by_vote (vote.Granted reads) = (true, record { answered = refl; appended = refl; posted = refl })
+      by_vote (vote.Mismatch place kept) = (false, record { answered = refl; appended = refl; posted = refl })
+      by_vote (vote.Locked holder) = (false, record { answered = refl; appended = refl; posted = refl })
+      by_vote (vote.Forced floor) = (false, record { answered = refl; appended = refl; posted = refl })
+      by_vote (vote.Held cut) = (false, record { answered = refl; appended = refl; posted = refl })
 
       go : (x : Standing) (y : machine.Standing) → IsShownStanding x y → Answers (node.by_floor_asked n id x) (machine.answers_by_floor m t y)
       go Above y e = subst (λ z. Answers (node.by_floor_asked n id Above) (machine.answers_by_floor m t z)) (sym e) (false, record { answered = refl; appended = refl; posted = refl })
-      go (At vote) y e = subst (λ z. Answers (node.by_floor_asked n id (At vote)) (machine.answers_by_floor m t z)) (sym e) (by_vote (is_granted vote))
+      go (At x) y e = subst (λ z. Answers (node.by_floor_asked n id (At x)) (machine.answers_by_floor m t z)) (sym e) (by_vote x)
       go (Below floor) y e = subst (λ z. Answers (node.by_floor_asked n id (Below floor)) (machine.answers_by_floor m t z)) (sym e) (false, record { answered = refl; appended = refl; posted = refl })
 
 pub decisions : DecisionsAreTheMachines

@@ -1,15 +1,14 @@
 -- The least of some identifiers, and the least of their numbers.
-use Rattle.std.proofs.Common.{◌≡◌, ℕ, ◌<◌, ◌≤◌, nat_lt, Bool, true, false, cond, List, [], ◌∷◌, map, filter, Option, Some, None, inl, inr, refl, sym, ap, subst, ◌∙◌, arith}
+use Rattle.std.proofs.Common.{◌≡◌, ℕ, ◌<◌, ◌≤◌, nat_lt, ◌==◌, Bool, true, false, cond, List, [], ◌∷◌, map, filter, Option, Some, None, inl, inr, refl, sym, ap, subst, ◌∙◌, arith}
 use Rattle.std.specs.Prelude.{option_map}
-use Rattle.std.proofs.lemmas.Bool.{ltb-true, ltb-false}
+use Rattle.std.proofs.lemmas.Bool.{eqb-true, ltb-true, ltb-false}
 use Rattle.mini_tx.specs.declared.tx_id.TxId.{TxId}
 use Rattle.mini_tx.specs.Laws.{IsTypedId}
 use Rattle.mem_node.specs.declared.kept.Kept.{Kept}
 use Rattle.mem_node.specs.Identifiers.{precedes}
 use Rattle.mem_node.specs.Rules.{least_of, least_with}
 use Rattle.tx_rules.specs.Mini.{In}
-use Rattle.tx_actors.specs.Node.{sorted_in, sorted}
-use Rattle.tx_actors.specs.Rules.{first_of_list}
+use Rattle.tx_actors.specs.Node.{sorted_in, sorted, first_of_list}
 use Rattle.mem_laws.specs.Cells.{number}
 use Rattle.mem_laws.proofs.CellLemmas.{order_is}
 
@@ -33,11 +32,12 @@ same_least xs ys (Some a) (Some b) first second forth back =
 
 first_in : (x : ℕ) (zs xs : List ℕ) → IsLeastIn xs (first_of_list zs) → IsLeastIn (x ∷ xs) (first_of_list (sorted_in x zs))
 first_in x [] xs none = (inl refl, λ y h. elim h [ inl e ↦ omega (arith, e) | inr rest ↦ absurd (none y rest) ])
-first_in x (z ∷ zs) xs least = go (nat_lt z x) refl
+first_in x (z ∷ zs) xs least = go (nat_lt z x) (x == z) refl refl
   where
-    go : (b : Bool) → nat_lt z x ≡ b → IsLeastIn (x ∷ xs) (first_of_list (cond b (z ∷ sorted_in x zs) (x ∷ z ∷ zs)))
-    go true is = (inr least.0, λ y h. let less = ltb-true z x is in elim h [ inl e ↦ omega (arith, e, less) | inr rest ↦ least.1 y rest ])
-    go false is = (
+    go : (b c : Bool) → nat_lt z x ≡ b → (x == z) ≡ c → IsLeastIn (x ∷ xs) (first_of_list (cond b (z ∷ sorted_in x zs) (cond c (z ∷ zs) (x ∷ z ∷ zs))))
+    go true c is one = (inr least.0, λ y h. let less = ltb-true z x is in elim h [ inl e ↦ omega (arith, e, less) | inr rest ↦ least.1 y rest ])
+    go false true is one = (inr least.0, λ y h. let same = eqb-true x z one in elim h [ inl e ↦ omega (arith, e, same) | inr rest ↦ least.1 y rest ])
+    go false false is one = (
       inl refl,
       λ y h. let low = ltb-false z x is in elim h [ inl e ↦ omega (arith, e) | inr rest ↦ let next = least.1 y rest in omega (arith, low, next) ],
     )

@@ -1,6 +1,6 @@
 -- What decisions and forgetting leave shows in the machine again.
-use Rattle.std.proofs.Common.{◌≡◌, ℕ, ◌==◌, Bool, true, false, not, cond, ◌&&◌, ◌||◌, List, [], ◌∷◌, map, filter, length, Option, Some, None, is_some, unwrap_or, refl, sym, ap, subst, ◌∙◌}
-use Rattle.std.proofs.lemmas.Bool.{and_parts, and_right, eq-eqb, eqb-true, not_from_false, false_from_ne_true}
+use Rattle.std.proofs.Common.{◌≡◌, ℕ, ◌==◌, Bool, true, false, not, cond, ◌&&◌, ◌||◌, List, [], ◌∷◌, map, filter, length, Option, Some, None, is_some, unwrap_or, inl, inr, refl, sym, ap, subst, ◌∙◌}
+use Rattle.std.proofs.lemmas.Bool.{and_parts, and_right, eq-eqb, eqb-true, not_from_false, false_from_ne_true, not-true}
 use Rattle.mini_tx.specs.declared.entry.Entry.{Entry}
 use Rattle.mini_tx.specs.declared.entry.Entry.TheVariants as entry
 use Rattle.mini_tx.specs.declared.message.Message as sent_type
@@ -19,17 +19,41 @@ use Rattle.tx_rules.specs.Decision.{Record, Commit, Abort, Forget}
 use Rattle.tx_rules.specs.World.{World, after_all}
 use Rattle.tx_actors.specs.Machine.{appending}
 use Rattle.tx_actors.specs.Node as machine
-use Rattle.tx_actors.proofs.TestLemmas.{In-filter, In-map, not_two}
+use Rattle.tx_actors.specs.Node.{after_record, after_records}
+use Rattle.tx_actors.proofs.AlikeLemmas.{alike_after_all, alike_self}
+use Rattle.tx_actors.proofs.TestLemmas.{In-filter, In-map, filter-In, map-In, not_two}
 use Rattle.mem_laws.specs.Cells.{number, cells_from, written_in}
-use Rattle.mem_laws.specs.Shown.{IsShownRecord, Shows, records_of}
+use Rattle.mem_laws.specs.Shown.{AreDistinct, decision_on, IsShownRecord, Shows, records_of}
 use Rattle.mem_laws.specs.Laws.{IsNamed, DecisionsLeaveTheSame, ForgettingLeavesTheSame, AnswersLeaveTheSame}
-use Rattle.mem_laws.proofs.AlikeLemmas.{after_record, after_records, shows_alike, alike_after_all, alike_self}
+use Rattle.mem_laws.proofs.AlikeLemmas.{shows_alike}
 use Rattle.mem_laws.proofs.CellLemmas.{number_same, sameness_is}
 use Rattle.mem_laws.proofs.DecideLemmas.{found, decisions, forgetting, answers}
 use Rattle.mem_laws.proofs.FloorLemmas.{same_self, refused_state}
 use Rattle.mem_laws.proofs.ImageLemmas.{AreWritesWithin, same_size, length_written, image_after, map_alike}
-use Rattle.mem_laws.proofs.RuleLemmas.{find-In, filter-In, map-In}
+use Rattle.mem_laws.proofs.RuleLemmas.{find-In}
 use Rattle.mem_laws.proofs.WantLemmas.{IsImage}
+
+one_bool : (a b : Bool) → ◌≡◌ {A = Option Bool} (Some a) (Some b) → a ≡ b
+one_bool a b e = cc
+
+-- ---- distinct records
+
+distinct_map : (f : Kept → Kept) → ((k : Kept) → (f k).id ≡ k.id) → (kept : List Kept) → AreDistinct kept → AreDistinct (map f kept)
+distinct_map f same [] distinct = tt
+distinct_map f same (k ∷ kept) distinct = (
+  λ other h e.
+      let from = In-map f other kept h in
+      distinct.0 from.0 from.1 (ap number (sym (same from.0)) ∙ ap (λ (x : Kept). number x.id) (sym from.2) ∙ e ∙ ap number (same k)),
+  distinct_map f same kept distinct.1,
+)
+
+distinct_filter : (test : Kept → Bool) (kept : List Kept) → AreDistinct kept → AreDistinct (filter test kept)
+distinct_filter test [] distinct = tt
+distinct_filter test (k ∷ kept) distinct = go (test k) (distinct_filter test kept distinct.1)
+  where
+    go : (b : Bool) → AreDistinct (filter test kept) → AreDistinct (cond b (k ∷ filter test kept) (filter test kept))
+    go true rest = (λ other h. distinct.0 other (In-filter test other kept h).0, rest)
+    go false rest = rest
 
 -- ---- tests
 
@@ -98,8 +122,9 @@ module _ (s : Setting) (m : ℕ) (n : node.Node) (v : machine.View) (id : TxId) 
 
     -- what the record does to what is found in the log
     pub record IsDecision : Type 0 where
+      pub logged : r ≡ decision_on t commit
       pub floors : (c : ℕ) → machine.floor_of s (r ∷ v.records) c ≡ machine.floor_of s v.records c
-      pub kept : (u : ℕ) → machine.is_kept s (r ∷ v.records) u ≡ machine.is_kept s v.records u
+      pub kept : (u : ℕ) → machine.is_kept s m (r ∷ v.records) u ≡ machine.is_kept s m v.records u
       pub undecided : (u : ℕ) → machine.is_undecided (r ∷ v.records) u ≡ (machine.is_undecided v.records u && not (t == u))
       pub granted : (u : ℕ) → (machine.has_decision (r ∷ v.records) u || machine.has_forget (r ∷ v.records) u) ≡ true → machine.has_grant (r ∷ v.records) u ≡ true
       pub sized : length image ≡ length n.state.image
@@ -117,22 +142,26 @@ module _ (s : Setting) (m : ℕ) (n : node.Node) (v : machine.View) (id : TxId) 
             typed = before.typed;
             granted = before.granted;
             vote = before.vote;
+            participants = before.participants;
             undecided =
                 is.undecided (number k.id)
                 ∙ and_right (machine.is_undecided v.records (number k.id)) (not (t == number k.id)) (ap not (eq-eqb t (number k.id) (sym (number_same k.id id same))));
+            decision = λ made is_made. inl (ap (decision_on (number k.id)) (sym (one_bool commit made is_made)) ∙ ap (λ u. decision_on u commit) (number_same k.id id same) ∙ sym is.logged);
             locked = λ never. absurd cc;
-            written = before.written;
+            written = λ never. absurd cc;
           }
           go false other = record {
             typed = before.typed;
             granted = before.granted;
             vote = before.vote;
+            participants = before.participants;
             undecided =
                 is.undecided (number k.id)
                 ∙ pass_by (machine.is_undecided v.records (number k.id)) (t == number k.id)
                 (false_from_ne_true (t == number k.id) (λ alike.
                 let one : is_same k.id id ≡ true = sym (sameness_is k.id id before.typed named.typed) ∙ eq-eqb (number k.id) t (sym (eqb-true t (number k.id) alike)) in absurd cc))
                 ∙ before.undecided;
+            decision = λ made is_made. inr (before.decision made is_made);
             locked = before.locked;
             written = before.written;
           }
@@ -143,6 +172,10 @@ module _ (s : Setting) (m : ℕ) (n : node.Node) (v : machine.View) (id : TxId) 
             floors = λ c. is.floors c ∙ named.shows.floors c;
             votes = named.shows.votes;
             kept = λ other typed. is.kept (number other) ∙ named.shows.kept other typed ∙ sym (still_found commit n.state.kept other);
+            distinct = distinct_map (decided id commit) (same_id commit) n.state.kept named.shows.distinct;
+            typed = λ u keeps.
+                let there = named.shows.typed u (sym (is.kept u) ∙ keeps) in
+                (decided id commit there.0, map-In (decided id commit) there.0 n.state.kept there.1, ap number (same_id commit there.0) ∙ there.2);
             records = λ k h.
                 let from = In-map (decided id commit) k n.state.kept h in
                 subst (λ (x : Kept). IsShownRecord s m now x) (sym from.2) (shown from.0 from.1);
@@ -168,11 +201,12 @@ module _ (s : Setting) (m : ℕ) (n : node.Node) (v : machine.View) (id : TxId) 
       go true e some = ap (machine.has_grant v.records) (sym (eqb-true t u e)) ∙ (found s m n v id named k is).granted
       go false e some = before some
 
-  pub decided_state : (commit : Bool) (k : Kept) → kept_of n.state.kept id ≡ Some k
+  pub decided_state : (commit : Bool) (k : Kept) → kept_of n.state.kept id ≡ Some k → node.is_undecided k ≡ true
       → Shows s m (after_one n.state (Some (entry.Decided id commit))) (after_records s m v (records_of (Some (entry.Decided id commit))))
-  decided_state true k is =
+  decided_state true k is open_ =
       subst (λ (o : Option Kept). Shows s m (record n.state { kept = map (decided id true) n.state.kept; image = committed true n.state.image (writes_kept o) }) (after_record s m v (Commit t))) (sym is)
       (decided_shows true (Commit t) (written n.state.image k.writes) (λ a. unwrap_or ((s.mini t).writes m a) (v.image a)) record {
+        logged = refl;
         floors = λ c. refl;
         kept = λ u. refl;
         undecided = λ u. still_open (t == u) (machine.has_grant v.records u) (machine.has_decision v.records u);
@@ -181,7 +215,7 @@ module _ (s : Setting) (m : ℕ) (n : node.Node) (v : machine.View) (id : TxId) 
         stored = λ at count fits.
             image_after k.writes n.state.image v.image named.shows.image within at count fits
             ∙ map_alike (λ a. unwrap_or (written_in k.writes a) (v.image a)) (λ a. unwrap_or ((s.mini t).writes m a) (v.image a)) (cells_from at count)
-            (λ a h. ap (λ o. unwrap_or o (v.image a)) (sym (ap (λ u. (s.mini u).writes m a) (sym (number_same k.id id there.1)) ∙ (named.shows.records k there.0).written a)));
+            (λ a h. ap (λ o. unwrap_or o (v.image a)) (sym (ap (λ u. (s.mini u).writes m a) (sym (number_same k.id id there.1)) ∙ (named.shows.records k there.0).written open_ a)));
       })
     where
       there : In k n.state.kept × (is_same k.id id ≡ true)
@@ -189,8 +223,9 @@ module _ (s : Setting) (m : ℕ) (n : node.Node) (v : machine.View) (id : TxId) 
 
       within : AreWritesWithin (length n.state.image) k.writes
       within = named.shows.within k there.0
-  decided_state false k is =
+  decided_state false k is open_ =
       decided_shows false (Abort t) n.state.image v.image record {
+        logged = refl;
         floors = λ c. refl;
         kept = λ u. refl;
         undecided = λ u. still_open (t == u) (machine.has_grant v.records u) (machine.has_decision v.records u);
@@ -246,7 +281,21 @@ module _ (s : Setting) (m : ℕ) (n : node.Node) (v : machine.View) (id : TxId) 
             ∙ sym (found_left n.state.kept other);
         records = λ x h.
             let shown = named.shows.records x (In-filter stays x n.state.kept h).0 in
-            record { typed = shown.typed; granted = shown.granted; vote = shown.vote; undecided = shown.undecided; locked = shown.locked; written = shown.written };
+            record {
+              typed = shown.typed;
+              granted = shown.granted;
+              vote = shown.vote;
+              participants = shown.participants;
+              undecided = shown.undecided;
+              decision = λ commit made. inr (shown.decision commit made);
+              locked = shown.locked;
+              written = shown.written;
+            };
+        distinct = distinct_filter stays n.state.kept named.shows.distinct;
+        typed = λ u keeps.
+            let both = and_parts (machine.is_kept s m v.records u) (not (t == u)) (sym (less_kept (t == u) (machine.has_grant v.records u) _ (machine.has_forget v.records u)) ∙ keeps) in
+            let there = named.shows.typed u both.0 in
+            (there.0, filter-In stays there.0 n.state.kept there.1 (not_from_false (is_same there.0.id id) (apart there.0 u both.1 there.2)), there.2);
         within = λ x h. named.shows.within x (In-filter stays x n.state.kept h).0;
         undecided = λ u open_.
             let there = named.shows.undecided u open_ in
@@ -261,6 +310,10 @@ module _ (s : Setting) (m : ℕ) (n : node.Node) (v : machine.View) (id : TxId) 
       other : (x : Kept) (u : ℕ) → machine.is_undecided v.records u ≡ true → number x.id ≡ u → is_same x.id id ≡ false
       other x u open_ e = false_from_ne_true (is_same x.id id) (λ same.
           not_two (machine.is_undecided v.records t) (ap (machine.is_undecided v.records) (sym (number_same x.id id same) ∙ e) ∙ open_) closed)
+
+      apart : (x : Kept) (u : ℕ) → not (t == u) ≡ true → number x.id ≡ u → is_same x.id id ≡ false
+      apart x u differ e = false_from_ne_true (is_same x.id id) (λ same.
+          not_two (t == u) (eq-eqb t u (sym (number_same x.id id same) ∙ e)) (not-true (t == u) differ))
 
       go : (u : ℕ) (b : Bool) → (t == u) ≡ b → (machine.has_decision v.records u || (b || machine.has_forget v.records u)) ≡ true → machine.has_grant v.records u ≡ true
       go u true e h = ap (machine.has_grant v.records) (sym (eqb-true t u e)) ∙ (found s m n v id named k is).granted
@@ -277,11 +330,11 @@ module _ (s : Setting) (m : ℕ) (n : node.Node) (v : machine.View) (id : TxId) 
   forced_state (Below floor) is answer = named.shows
 
   pub decision_leaves : (commit : Bool) (kept : Option Kept) → kept_of n.state.kept id ≡ kept → ShowsAfter (node.on_decide n id commit kept).entry
-  decision_leaves commit (Some k) is = go (node.is_undecided k)
+  decision_leaves commit (Some k) is = go (node.is_undecided k) refl
     where
-      go : (b : Bool) → ShowsAfter (cond b (node.appends n (entry.Decided id commit) (sent.Done id)) (node.answers n (sent.Done id))).entry
-      go true = decided_state commit k is
-      go false = named.shows
+      go : (b : Bool) → node.is_undecided k ≡ b → ShowsAfter (cond b (node.appends n (entry.Decided id commit) (sent.Done id)) (node.answers n (sent.Done id))).entry
+      go true open_ = decided_state commit k is open_
+      go false over = named.shows
   decision_leaves true None is = named.shows
   decision_leaves false None is = forced_state (node.standing n.state id) refl (sent.Done id)
 

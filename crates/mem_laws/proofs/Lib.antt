@@ -9,3 +9,8 @@ pub mod FloorLemmas
 pub mod StateLemmas
 pub mod DecideLemmas
 pub mod LeaveLemmas
+pub mod ListLemmas
+pub mod CutLemmas
+pub mod LoadLemmas
+pub mod MiniLemmas
+pub mod PartLemmas

@@ -1,5 +1,5 @@
 -- The rule that a memory node finds is the machine's.
-use Rattle.std.proofs.Common.{◌≡◌, ℕ, ◌+◌, ◌==◌, Bool, true, false, cond, ◌&&◌, List, [], ◌∷◌, map, filter, length, Option, Some, None, is_some, ◌⊎◌, inl, inr, refl, sym, ap, subst, ◌∙◌, arith}
+use Rattle.std.proofs.Common.{◌≡◌, ℕ, ◌==◌, Bool, true, false, cond, ◌&&◌, List, [], ◌∷◌, map, filter, length, Option, Some, None, is_some, ◌⊎◌, inl, inr, refl, sym, ap, subst, ◌∙◌}
 use Rattle.std.specs.Prelude.{find, option_map}
 use Rattle.std.proofs.lemmas.Bool.{and_parts, and_from}
 use Rattle.std.proofs.lemmas.List.Elements.{recursion_from_All}
@@ -7,7 +7,6 @@ use Rattle.mini_tx.specs.declared.cut_id.CutId.{CutId}
 use Rattle.mini_tx.specs.declared.placed_item.PlacedItem.{PlacedItem}
 use Rattle.mini_tx.specs.declared.range.Range.{Range}
 use Rattle.mini_tx.specs.declared.tx_id.TxId.{TxId}
-use Rattle.mini_tx.specs.EntryGrammar.{is_granted}
 use Rattle.mini_tx.specs.Minitransactions.{place_of, bytes_of}
 use Rattle.mem_node.specs.declared.difference.Difference.{Difference}
 use Rattle.mem_node.specs.declared.floor.Floor.{Floor}
@@ -21,32 +20,19 @@ use Rattle.mem_node.specs.Rules as node
 use Rattle.mem_node.specs.State.{floor_at, kept_of}
 use Rattle.tx_rules.specs.Mini.{In, Setting, cells_of}
 use Rattle.tx_actors.specs.Node as machine
-use Rattle.tx_actors.specs.Rules as rules
-use Rattle.tx_actors.specs.Tests as tests
+use Rattle.tx_rules.specs.Lists as tests
 use Rattle.tx_actors.proofs.RecordLemmas.{has_grant-In, In-granted_in}
-use Rattle.tx_actors.proofs.TestLemmas.{In-filter, In-map}
-use Rattle.mem_laws.specs.Cells.{number, cells_in, item_of_cell}
-use Rattle.mem_laws.specs.Shown.{shown_floor, IsShownRule}
+use Rattle.tx_actors.proofs.TestLemmas.{In-filter, In-map, filter-In, map-In}
+use Rattle.mem_laws.specs.Cells.{number, cut_number, cells_in}
+use Rattle.mem_laws.specs.Shown.{reason_of, shown_floor, cut_held, shown_rule}
 use Rattle.mem_laws.specs.Laws.{IsAsked}
 use Rattle.mem_laws.proofs.CellLemmas.{order_is, sameness_is, meet_is}
 use Rattle.mem_laws.proofs.LeastLemmas.{same_least, first_is_least, numbers_with, least_is}
-use Rattle.mem_laws.proofs.WantLemmas.{AreWithin, IsSameMismatch, mismatch_is}
+use Rattle.mem_laws.proofs.WantLemmas.{AreWithin, place_found, mismatch_is}
 
 -- ---- elements
 
 module _ {A : Type 0} where
-  pub filter-In : (test : A → Bool) (x : A) (xs : List A) → In x xs → test x ≡ true → In x (filter test xs)
-  filter-In test x [] h is = absurd h
-  filter-In test x (y ∷ xs) h is = go (test y) refl (λ rest. filter-In test x xs rest is) h
-    where
-      go : (b : Bool) → test y ≡ b → (In x xs → In x (filter test xs)) → (x ≡ y) ⊎ In x xs → In x (cond b (y ∷ filter test xs) (filter test xs))
-      go true same rest k = elim k [ inl e ↦ inl e | inr later ↦ inr (rest later) ]
-      go false same rest k = elim k [ inl e ↦ (let two : true ≡ false = sym is ∙ ap test e ∙ same in absurd cc) | inr later ↦ rest later ]
-
-  pub map-In : {B : Type 0} (f : A → B) (x : A) (xs : List A) → In x xs → In (f x) (map f xs)
-  map-In f x [] h = absurd h
-  map-In f x (y ∷ xs) h = elim h [ inl e ↦ inl (ap f e) | inr rest ↦ inr (map-In f x xs rest) ]
-
   pub find-In : (test : A → Bool) (x : A) (xs : List A) → find test xs ≡ Some x → In x xs × (test x ≡ true)
   find-In test x [] e = absurd cc
   find-In test x (y ∷ xs) e = go (test y) refl (find-In test x xs) e
@@ -56,8 +42,8 @@ module _ {A : Type 0} where
       go false same rest is = let r = rest is in (inr r.0, r.1)
 
 module _ (s : Setting) (m : ℕ) (n : node.Node) (v : machine.View) (id : TxId) (participants : List ℕ) (items : List PlacedItem) (asked : IsAsked s m n v id participants items) where
-  abbrev held : Bool
-  held = is_some (node.held_cut n.copy)
+  abbrev held : Option ℕ
+  held = cut_held n.copy
 
   pub within : AreWithin (length n.state.image) items
   within = recursion_from_All (λ (p : PlacedItem). IsInside (length n.state.image) (place_of p.item) (bytes_of p.item)) items asked.inside
@@ -109,35 +95,27 @@ module _ (s : Setting) (m : ℕ) (n : node.Node) (v : machine.View) (id : TxId) 
       (map-In (λ (k : Kept). number k.id) k (filter (node.blocks ranges) n.state.kept)
       (filter-In (node.blocks ranges) k n.state.kept found.1 (and_from (node.is_undecided k) _ undecided met)))
 
-  holder_is : option_map number (node.least_holder n.state (map range_of items)) ≡ rules.least_holder s m v.records (number id)
+  holder_is : option_map number (node.least_holder n.state (map range_of items)) ≡ machine.least_holder s m v.records (number id)
   unfolding holders in_the_way ranges
   holder_is =
-      same_least (numbers_with (node.blocks ranges) n.state.kept) holders (option_map number (node.least_holder n.state ranges)) (rules.first_of_list (machine.sorted holders))
+      same_least (numbers_with (node.blocks ranges) n.state.kept) holders (option_map number (node.least_holder n.state ranges)) (machine.first_of_list (machine.sorted holders))
       (least_is (node.blocks ranges) n.state.kept (λ k h. (asked.shows.records k h).typed)) (first_is_least holders) forth back
 
   -- ---- above the floor
 
-  above_is : IsShownRule items (node.rule_above n items)
-      (cond held rules.HeldBack (rules.rule_by_cells (rules.least_holder s m v.records (number id)) (rules.first_mismatch ((s.mini (number id)).wants m) v.image 0)))
+  above_is : machine.rule_by_cut held (machine.least_holder s m v.records (number id)) (machine.first_mismatch ((s.mini (number id)).wants m) v.image) ≡ shown_rule (node.rule_above n items)
   above_is =
-      by_cut (node.held_cut n.copy) (node.least_holder n.state (map range_of items)) (rules.least_holder s m v.records (number id)) holder_is
-      (first_difference n.state.image items) (rules.first_mismatch ((s.mini (number id)).wants m) v.image 0)
-      (subst (λ wants. IsSameMismatch (item_of_cell items) (first_difference n.state.image items) (rules.first_mismatch wants v.image 0) 0) (sym asked.told.compared)
-      (mismatch_is n.state.image v.image asked.shows.image items within 0))
+      ap (λ o. machine.rule_by_cut held o (machine.first_mismatch ((s.mini (number id)).wants m) v.image)) (sym holder_is)
+      ∙ ap (λ wants. machine.rule_by_cut held (option_map number (node.least_holder n.state (map range_of items))) (machine.first_mismatch wants v.image)) asked.told.compared
+      ∙ ap (machine.rule_by_cut held (option_map number (node.least_holder n.state (map range_of items)))) (mismatch_is n.state.image v.image asked.shows.image items within)
+      ∙ by_cut (node.held_cut n.copy) (node.least_holder n.state (map range_of items)) (first_difference n.state.image items)
     where
-      by_items : (d : Option Difference) (x : Option ℕ) → IsSameMismatch (item_of_cell items) d x 0 → IsShownRule items (node.rule_by_items d) (rules.rule_by_cells None x)
-      by_items None x e = ap (rules.rule_by_cells None) e
-      by_items (Some d) x h = let e : 0 + h.0 ≡ h.0 = omega arith in (h.0, ap (rules.rule_by_cells None) h.1 ∙ ap rules.MismatchAt e, h.2)
-
-      by_locks : (a : Option TxId) (b : Option ℕ) → option_map number a ≡ b → (d : Option Difference) (x : Option ℕ) → IsSameMismatch (item_of_cell items) d x 0
-          → IsShownRule items (node.rule_by_locks a d) (rules.rule_by_cells b x)
-      by_locks None b e d x h = subst (λ o. IsShownRule items (node.rule_by_items d) (rules.rule_by_cells o x)) e (by_items d x h)
-      by_locks (Some holder) b e d x h = ap (λ o. rules.rule_by_cells o x) (sym e)
-
-      by_cut : (c : Option CutId) (a : Option TxId) (b : Option ℕ) → option_map number a ≡ b → (d : Option Difference) (x : Option ℕ) → IsSameMismatch (item_of_cell items) d x 0
-          → IsShownRule items (node.rule_by_cut c a d) (cond (is_some c) rules.HeldBack (rules.rule_by_cells b x))
-      by_cut (Some cut) a b e d x h = refl
-      by_cut None a b e d x h = by_locks a b e d x h
+      by_cut : (c : Option CutId) (a : Option TxId) (d : Option Difference)
+          → machine.rule_by_cut (option_map cut_number c) (option_map number a) (place_found d) ≡ shown_rule (node.rule_by_cut c a d)
+      by_cut (Some cut) a d = refl
+      by_cut None (Some holder) d = refl
+      by_cut None None (Some d) = refl
+      by_cut None None None = refl
 
   -- ---- by the floor
 
@@ -145,8 +123,7 @@ module _ (s : Setting) (m : ℕ) (n : node.Node) (v : machine.View) (id : TxId) 
   floor_is = ap (machine.floor_of s v.records) asked.told.coordinator ∙ asked.shows.floors id.coord
 
   by_floor : (floor : Option Floor) → floor_at n.state.floors id.coord ≡ floor → machine.floor_of s v.records (s.coord (number id)) ≡ shown_floor floor
-      → IsShownRule items (node.rule_by_floor (node.to_floor floor id) (node.rule_above n items))
-      (rules.rule_by_floor s m held v (number id) (machine.to_floor (number id) (shown_floor floor)))
+      → machine.rule_by_floor s m held v (number id) (machine.to_floor (number id) (shown_floor floor)) ≡ shown_rule (node.rule_by_floor (node.to_floor floor id) (node.rule_above n items))
   by_floor None is shown = above_is
   by_floor (Some floor) is shown =
       let typed = (asked.shows.votes id.coord floor is).0 in
@@ -155,24 +132,23 @@ module _ (s : Setting) (m : ℕ) (n : node.Node) (v : machine.View) (id : TxId) 
       (go (precedes floor.id id) (is_same floor.id id)))
     where
       G : Bool → Bool → Bool → Bool → Type 0
-      G a b c d = IsShownRule items (node.rule_by_floor (cond a Above (cond b (At floor.vote) (Below floor.id))) (node.rule_above n items))
-          (rules.rule_by_floor s m held v (number id) (cond c machine.Above (cond d (machine.Same (is_granted floor.vote)) machine.Below)))
+      G a b c d = machine.rule_by_floor s m held v (number id) (cond c machine.Above (cond d (machine.Same (reason_of floor.vote)) (machine.Below (number floor.id))))
+          ≡ shown_rule (node.rule_by_floor (cond a Above (cond b (At floor.vote) (Below floor.id))) (node.rule_above n items))
 
       go : (a b : Bool) → G a b a b
       go true b = above_is
       go false true = refl
-      go false false = ap (λ o. rules.ForcedBy (rules.floor_number o)) shown
+      go false false = refl
 
-  by_record : (kept : Option Kept) (b : Bool) → b ≡ is_some kept → (rule : Rule) (x : rules.Rule) → IsShownRule items rule x
-      → IsShownRule items (node.rule_by_record kept rule) (cond b rules.RecordAgain x)
+  by_record : (kept : Option Kept) (b : Bool) → b ≡ is_some kept → (rule : Rule) (x : machine.Rule) → x ≡ shown_rule rule
+      → cond b machine.RecordAgain x ≡ shown_rule (node.rule_by_record kept rule)
   by_record None true e rule x h = absurd cc
   by_record None false e rule x h = h
   by_record (Some k) true e rule x h = refl
   by_record (Some k) false e rule x h = absurd cc
 
-  pub rule_is : IsShownRule items (node.rule_for n id items) (rules.rule_for s m (is_some (node.held_cut n.copy)) v (number id))
+  pub rule_is : machine.rule_for s m (cut_held n.copy) v (number id) ≡ shown_rule (node.rule_for n id items)
   rule_is =
-      by_record (kept_of n.state.kept id) (machine.is_kept s v.records (number id)) (asked.shows.kept id asked.typed)
-      (node.rule_by_floor (node.standing n.state id) (node.rule_above n items)) (rules.rule_by_floor s m held v (number id) (machine.standing s v.records (number id)))
-      (subst (λ o. IsShownRule items (node.rule_by_floor (node.standing n.state id) (node.rule_above n items)) (rules.rule_by_floor s m held v (number id) (machine.to_floor (number id) o)))
-      (sym floor_is) (by_floor (floor_at n.state.floors id.coord) refl floor_is))
+      by_record (kept_of n.state.kept id) (machine.is_kept s m v.records (number id)) (asked.shows.kept id asked.typed)
+      (node.rule_by_floor (node.standing n.state id) (node.rule_above n items)) (machine.rule_by_floor s m held v (number id) (machine.standing s v.records (number id)))
+      (ap (λ o. machine.rule_by_floor s m held v (number id) (machine.to_floor (number id) o)) floor_is ∙ by_floor (floor_at n.state.floors id.coord) refl floor_is)

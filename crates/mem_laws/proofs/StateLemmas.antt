@@ -20,22 +20,25 @@ use Rattle.mem_node.specs.Identifiers.{precedes, is_same}
 use Rattle.mem_node.specs.Items.{written, reads_of, writes_of, range_of}
 use Rattle.mem_node.specs.Rules as node
 use Rattle.mem_node.specs.State.{floor_at, kept_of, after_one}
-use Rattle.tx_rules.specs.Mini.{In, Setting, has_several, is_logged, nodes_of}
+use Rattle.tx_rules.specs.Mini as mini
+use Rattle.tx_rules.specs.Mini.{In, Setting, has_several, is_logged, nodes_of, participants_at}
 use Rattle.tx_rules.specs.Decision.{Grant, Commit}
 use Rattle.tx_rules.specs.World.{after_all}
 use Rattle.tx_actors.specs.Machine.{appending}
 use Rattle.tx_actors.specs.Node as machine
+use Rattle.tx_actors.specs.Node.{after_record, after_records}
+use Rattle.tx_actors.proofs.AlikeLemmas.{alike_after_all, alike_self}
 use Rattle.tx_actors.proofs.LawLemmas.{floors_are_greatest}
-use Rattle.tx_actors.proofs.RecordLemmas.{has_grant-In}
+use Rattle.tx_actors.proofs.RecordLemmas.{has_grant-In, live_named}
 use Rattle.tx_actors.proofs.TestLemmas.{not_two}
 use Rattle.tx_rules.proofs.FaithfulLemmas.{in_front, in_back, in_either}
-use Rattle.mem_laws.specs.Cells.{number, cells_from, joined, written_in}
-use Rattle.mem_laws.specs.Shown.{shown_floor, IsShownRecord, Shows, records_of}
+use Rattle.mem_laws.specs.Cells.{number, cells_from, written_in}
+use Rattle.mem_laws.specs.Shown.{reason_of, shown_floor, AreDistinct, cut_held, IsShownRecord, Shows, records_of}
 use Rattle.mem_laws.specs.Laws.{IsNamed, IsAsked, OpenedNodesShow, StatesAreTheMachines}
 use Rattle.mem_laws.proofs.CellLemmas.{order_is, sameness_is}
 use Rattle.mem_laws.proofs.FloorLemmas.{found_in, floor_moves, votes_after, other_number, refused_state}
 use Rattle.mem_laws.proofs.ImageLemmas.{AreWritesWithin, same_size, length_written, bytes_of_cells, image_after, map_alike, writes_within}
-use Rattle.mem_laws.proofs.AlikeLemmas.{after_record, after_records, vote_alike, shows_alike, alike_after_all, alike_self}
+use Rattle.mem_laws.proofs.AlikeLemmas.{vote_alike, shows_alike}
 use Rattle.mem_laws.proofs.RuleLemmas.{within}
 use Rattle.mem_laws.proofs.VoteLemmas.{several_is, vote_is}
 use Rattle.mem_laws.proofs.WantLemmas.{reads_are}
@@ -57,12 +60,27 @@ opened_shows s m nodes image seen =
       floors = λ c. ap shown_floor (sym (no_floor nodes c));
       votes = λ c floor is. let e : None ≡ Some floor = sym (no_floor nodes c) ∙ is in absurd cc;
       kept = λ id typed. refl;
+      distinct = tt;
       records = λ k h. absurd h;
       within = λ k h. absurd h;
       undecided = λ t is. absurd cc;
       granted = λ t is. absurd cc;
+      typed = λ t is. absurd cc;
       image = bytes_of_cells image;
     }
+
+-- ---- distinct records
+
+pub distinct_more : (kept : List Kept) (x : Kept) → AreDistinct kept → ((k : Kept) → In k kept → ¬ (number k.id ≡ number x.id)) → AreDistinct (kept ++ x ∷ [])
+distinct_more [] x distinct apart = (λ other h. absurd h, tt)
+distinct_more (k ∷ kept) x distinct apart = (
+  λ other h. elim (in_either other kept (x ∷ []) h) [
+    | inl before ↦ distinct.0 other before
+    | inr (inl e) ↦ λ same. apart k (inl refl) (sym same ∙ ap (λ (y : Kept). number y.id) e)
+    | inr (inr none) ↦ absurd none
+  ],
+  distinct_more kept x distinct.1 (λ y h. apart y (inr h)),
+)
 
 -- ---- tests
 
@@ -104,15 +122,18 @@ module _ (s : Setting) (m : ℕ) (n : node.Node) (v : machine.View) (id : TxId) 
 
   -- ---- Granted
 
+  named_by : participants_at s m t ≡ nodes_of s t
+  named_by = live_named s m t asked.fresh.0
+
   several : has_several (nodes_of s t) ≡ node.has_several participants
   several = ap has_several asked.told.nodes ∙ several_is participants
 
   not_kept : kept_of n.state.kept id ≡ None → (k : Kept) → In k n.state.kept → number k.id ≡ t → ⊥
   not_kept unkept k h e =
       let shown = asked.shows.records k h in
-      let kept : machine.is_kept s v.records (number k.id) ≡ true = asked.shows.kept k.id shown.typed ∙ found_in k n.state.kept h in
-      let never : machine.is_kept s v.records t ≡ false = asked.shows.kept id asked.typed ∙ ap (λ (o : Option Kept). is_some o) unkept in
-      not_two (machine.is_kept s v.records t) (ap (machine.is_kept s v.records) (sym e) ∙ kept) never
+      let kept : machine.is_kept s m v.records (number k.id) ≡ true = asked.shows.kept k.id shown.typed ∙ found_in k n.state.kept h in
+      let never : machine.is_kept s m v.records t ≡ false = asked.shows.kept id asked.typed ∙ ap (λ (o : Option Kept). is_some o) unkept in
+      not_two (machine.is_kept s m v.records t) (ap (machine.is_kept s m v.records) (sym e) ∙ kept) never
 
   other_test : (u : ℕ) → (u ≡ t → ⊥) → (t == u) ≡ false
   other_test u other = ne_eqb t u (λ e. other (sym e))
@@ -126,22 +147,26 @@ module _ (s : Setting) (m : ℕ) (n : node.Node) (v : machine.View) (id : TxId) 
   abbrev view_now : machine.View
   view_now = after_record s m (after_record s m v (Grant t)) (Commit t)
 
-  read_now : joined (reads_of n.state.image items) ≡ map (cond (t == t) v.image (v.seen t)) ((s.mini t).reads m)
+  read_now : reads_of n.state.image items ≡ mini.reads_of s t m (cond (t == t) v.image (v.seen t))
   read_now =
-      reads_are n.state.image v.image asked.shows.image items (within s m n v id participants items asked) ∙ ap (map v.image) (sym asked.told.read)
-      ∙ ap (λ b. map (cond b v.image (v.seen t)) ((s.mini t).reads m)) (sym (eq-eqb t t refl))
+      reads_are n.state.image v.image asked.shows.image items (within s m n v id participants items asked) ∙ ap (map (map v.image)) (sym asked.told.read)
+      ∙ ap (λ b. mini.reads_of s t m (cond b v.image (v.seen t))) (sym (eq-eqb t t refl))
 
   granted_state : is_logged (s.mini t) ≡ true → has_several (nodes_of s t) ≡ false → kept_of n.state.kept id ≡ None → node.standing n.state id ≡ Above
       → Shows s m (after_one n.state (Some (entry.Single id vote_now (writes_of items)))) view_now
   granted_state logged alone unkept above =
       record {
         floors = floor_moves s m n v id named vote_now;
-        votes = votes_after s m n v id named view_now vote_now above (λ granted. (logged, read_now))
+        votes = votes_after s m n v id named view_now vote_now above (λ granted fresh. (logged, read_now))
             (λ c f was other. vote_alike s m v view_now f.id f.vote (seen_before (number f.id) (other_number s m n v id named c f was other)) (asked.shows.votes c f was).1);
         kept = λ other typed.
-            same_kept (t == number other) (machine.has_grant v.records (number other)) (has_several (nodes_of s (number other))) (not (machine.has_forget v.records (number other)))
-            (λ is. ap (λ u. has_several (nodes_of s u)) (sym (eqb-true t (number other) is)) ∙ alone)
+            same_kept (t == number other) (machine.has_grant v.records (number other)) (has_several (participants_at s m (number other))) (not (machine.has_forget v.records (number other)))
+            (λ is. ap (λ u. has_several (participants_at s m u)) (sym (eqb-true t (number other) is)) ∙ ap has_several named_by ∙ alone)
             ∙ asked.shows.kept other typed;
+        distinct = asked.shows.distinct;
+        typed = λ u is.
+            asked.shows.typed u (sym (same_kept (t == u) (machine.has_grant v.records u) (has_several (participants_at s m u)) (not (machine.has_forget v.records u))
+            (λ e. ap (λ x. has_several (participants_at s m x)) (sym (eqb-true t u e)) ∙ ap has_several named_by ∙ alone)) ∙ is);
         records = λ k h.
             let shown = asked.shows.records k h in
             let other = not_kept unkept k h in
@@ -149,9 +174,11 @@ module _ (s : Setting) (m : ℕ) (n : node.Node) (v : machine.View) (id : TxId) 
               typed = shown.typed;
               granted = shown.granted;
               vote = vote_alike s m v view_now k.id k.vote (seen_before (number k.id) other) shown.vote;
+              participants = shown.participants;
               undecided =
                   ap (λ b. (b || machine.has_grant v.records (number k.id)) && not (b || machine.has_decision v.records (number k.id))) (other_test (number k.id) other)
                   ∙ shown.undecided;
+              decision = λ commit is. inr (inr (shown.decision commit is));
               locked = shown.locked;
               written = shown.written;
             };
@@ -173,11 +200,11 @@ module _ (s : Setting) (m : ℕ) (n : node.Node) (v : machine.View) (id : TxId) 
   not_granted above = false_from_ne_true (machine.has_grant v.records t) (λ is. go (floor_at n.state.floors id.coord) refl above (has_grant-In v.records t is))
     where
       go : (floor : Option Floor) → floor_at n.state.floors id.coord ≡ floor → node.to_floor floor id ≡ Above → In (Grant t) v.records → ⊥
-      go None is free there = (floors_are_greatest s v.records id.coord).0 (asked.shows.floors id.coord ∙ ap shown_floor is) t true there asked.told.coordinator
+      go None is free there = (floors_are_greatest s v.records id.coord).0 (asked.shows.floors id.coord ∙ ap shown_floor is) t None there asked.told.coordinator
       go (Some f) is free there = by_order (precedes f.id id) (is_same f.id id) (order_is f.id id (asked.shows.votes id.coord f is).0 asked.typed) free
         where
           least : t ≤ number f.id
-          least = ((floors_are_greatest s v.records id.coord).1 (number f.id) (is_granted f.vote) (asked.shows.floors id.coord ∙ ap shown_floor is)).2 t true there asked.told.coordinator
+          least = ((floors_are_greatest s v.records id.coord).1 (number f.id) (reason_of f.vote) (asked.shows.floors id.coord ∙ ap shown_floor is)).2 t None there asked.told.coordinator
 
           by_order : (a b : Bool) → nat_lt (number f.id) t ≡ a → cond a Above (cond b (At f.vote) (Below f.id)) ≡ Above → ⊥
           by_order true b e h = let low = least in let less = ltb-true (number f.id) t e in omega (arith, low, less)
@@ -214,15 +241,17 @@ module _ (s : Setting) (m : ℕ) (n : node.Node) (v : machine.View) (id : TxId) 
   kept_state logged many unkept above =
       record {
         floors = floor_moves s m n v id named vote_now;
-        votes = votes_after s m n v id named view_kept vote_now above (λ granted. (logged, read_now))
+        votes = votes_after s m n v id named view_kept vote_now above (λ granted fresh. (logged, read_now))
             (λ c f was other. vote_alike s m v view_kept f.id f.vote (seen_before (number f.id) (other_number s m n v id named c f was other)) (asked.shows.votes c f was).1);
         kept = λ other typed.
-            more_kept (t == number other) (machine.has_grant v.records (number other)) (has_several (nodes_of s (number other))) (not (machine.has_forget v.records (number other)))
-            (λ is. subst (λ u. (has_several (nodes_of s u) && not (machine.has_forget v.records u)) ≡ true) (eqb-true t (number other) is)
-            (and_from (has_several (nodes_of s t)) _ many (not_from_false (machine.has_forget v.records t) (never_decided above).1)))
+            more_kept (t == number other) (machine.has_grant v.records (number other)) (has_several (participants_at s m (number other))) (not (machine.has_forget v.records (number other)))
+            (λ is. subst (λ u. (has_several (participants_at s m u) && not (machine.has_forget v.records u)) ≡ true) (eqb-true t (number other) is)
+            (and_from (has_several (participants_at s m t)) _ (ap has_several named_by ∙ many) (not_from_false (machine.has_forget v.records t) (never_decided above).1)))
             ∙ ap (λ b. b || (t == number other)) (asked.shows.kept other typed)
             ∙ ap (λ b. is_some (kept_of n.state.kept other) || b) (sameness_is id other asked.typed typed)
             ∙ sym (kept_more n.state.kept other);
+        distinct = distinct_more n.state.kept record_now asked.shows.distinct (λ k h. not_kept unkept k h);
+        typed = λ u is. keeps u (t == u) refl is;
         records = λ k h. elim (in_either k n.state.kept (record_now ∷ []) h) [
           | inl before ↦ older k before
           | inr last ↦ newest k last
@@ -245,7 +274,9 @@ module _ (s : Setting) (m : ℕ) (n : node.Node) (v : machine.View) (id : TxId) 
             typed = shown.typed;
             granted = shown.granted;
             vote = vote_alike s m v view_kept k.id k.vote (seen_before (number k.id) other) shown.vote;
+            participants = shown.participants;
             undecided = ap (λ b. (b || machine.has_grant v.records (number k.id)) && not (machine.has_decision v.records (number k.id))) (other_test (number k.id) other) ∙ shown.undecided;
+            decision = λ commit is. inr (shown.decision commit is);
             locked = shown.locked;
             written = shown.written;
           }
@@ -255,12 +286,14 @@ module _ (s : Setting) (m : ℕ) (n : node.Node) (v : machine.View) (id : TxId) 
           record {
             typed = asked.typed;
             granted = refl;
-            vote = λ granted. (logged, read_now);
+            vote = λ granted fresh. (logged, read_now);
+            participants = sym (named_by ∙ asked.told.nodes);
             undecided =
                 ap (λ b. (b || machine.has_grant v.records t) && not (machine.has_decision v.records t)) (eq-eqb t t refl)
                 ∙ not_from_false (machine.has_decision v.records t) (never_decided above).0;
+            decision = λ commit is. absurd cc;
             locked = λ is. asked.told.touched;
-            written = asked.told.written;
+            written = λ is. asked.told.written;
           }
 
       newest : (k : Kept) → In k (record_now ∷ []) → IsShownRecord s m view_kept k
@@ -271,6 +304,12 @@ module _ (s : Setting) (m : ℕ) (n : node.Node) (v : machine.View) (id : TxId) 
       newest_within k (inl e) =
           subst (λ (x : Kept). AreWritesWithin (length n.state.image) x.writes) (sym e) (writes_within (length n.state.image) items (within s m n v id participants items asked))
       newest_within k (inr none) = absurd none
+
+      keeps : (u : ℕ) (b : Bool) → (t == u) ≡ b
+          → ((b || machine.has_grant v.records u) && (has_several (participants_at s m u) && not (machine.has_forget v.records u))) ≡ true
+          → (k : Kept) × In k (n.state.kept ++ record_now ∷ []) × (number k.id ≡ u)
+      keeps u true e is = (record_now, in_back record_now n.state.kept (record_now ∷ []) (inl refl), eqb-true t u e)
+      keeps u false e is = let found = asked.shows.typed u is in (found.0, in_front found.0 n.state.kept (record_now ∷ []) found.1, found.2)
 
       go : (u : ℕ) (b : Bool) → (t == u) ≡ b → ((b || machine.has_grant v.records u) && not (machine.has_decision v.records u)) ≡ true
           → (k : Kept) × In k (n.state.kept ++ record_now ∷ []) × (number k.id ≡ u)
@@ -345,7 +384,7 @@ module _ (s : Setting) (m : ℕ) (n : node.Node) (v : machine.View) (id : TxId) 
 pub state_is : StatesAreTheMachines
 state_is s m n w id participants items asked =
     let v = machine.view w m in
-    let appends = (machine.on_prepare s m (is_some (node.held_cut n.copy)) v (number id)).appends in
+    let appends = (machine.on_prepare s m (cut_held n.copy) v (number id)).appends in
     let e = (node.on_prepare n id participants items).entry in
     shows_alike s m (after_one n.state e) (after_records s m v appends) (machine.view (after_all s w (appending s w m appends)) m) (alike_after_all s m v w appends (alike_self s m v))
     (subst (λ rs. Shows s m (after_one n.state e) (after_records s m v rs)) (sym (vote_is s m n v id participants items asked).appends) (vote_state s m n v id participants items asked))

@@ -1,15 +1,20 @@
--- Identifiers as numbers, and items as cells.
-use Rattle.std.specs.Prelude.{ℕ, zero, suc, ◌+◌, ◌-◌, nat_lt, nat_le, ◌&&◌, List, [], ◌∷◌, ◌++◌, length, get_or, Option, Some, None, if◌then◌else◌}
+-- Identifiers and cuts as numbers, and items as cells.
+use Rattle.std.specs.Prelude.{ℕ, zero, suc, ◌*◌, ◌^◌, ◌+◌, ◌-◌, nat_lt, nat_le, ◌&&◌, List, [], ◌∷◌, ◌++◌, length, get_or, Option, Some, None, if◌then◌else◌}
+use Rattle.mini_tx.specs.declared.cut_id.CutId.{CutId}
 use Rattle.mini_tx.specs.declared.item.Item.{Item}
 use Rattle.mini_tx.specs.declared.item.Item.TheVariants.{Compare, Read, Write}
 use Rattle.mini_tx.specs.declared.placed_item.PlacedItem.{PlacedItem}
 use Rattle.mini_tx.specs.declared.range.Range.{Range}
 use Rattle.mini_tx.specs.declared.tx_id.TxId.{TxId}
 use Rattle.mini_tx.specs.declared.write_at.WriteAt.{WriteAt}
+use Rattle.tx_rules.specs.Mini.{Want}
 use Rattle.tx_actors.specs.Numbers.{identifier}
 
 abbrev pub number : TxId → ℕ
 number id = identifier id.coord id.boot id.seq
+
+abbrev pub cut_number : CutId → ℕ
+cut_number cut = cut.boot * 2 ^ 64 + cut.seq
 
 -- so many cells from a place on
 abbrev pub cells_from : ℕ → ℕ → List ℕ
@@ -21,46 +26,30 @@ abbrev pub cells_in : List Range → List ℕ
 cells_in [] = []
 cells_in (r ∷ ranges) = cells_from r.at r.length ++ cells_in ranges
 
--- the cells from a place on, each with the byte that it is to have
-abbrev pub wants_from : ℕ → List ℕ → List (ℕ × ℕ)
-wants_from at [] = []
-wants_from at (b ∷ bytes) = (at, b) ∷ wants_from (at + 1) bytes
+-- the cells from a place on that the item at a place compares, each with the byte that it is to have
+abbrev pub wants_from : ℕ → ℕ → List ℕ → List Want
+wants_from item at [] = []
+wants_from item at (b ∷ bytes) = record { cell = at; byte = b; item = item } ∷ wants_from item (at + 1) bytes
 
-abbrev pub wants_before : Item → List (ℕ × ℕ) → List (ℕ × ℕ)
-wants_before (Compare memory at bytes) others = wants_from at bytes ++ others
-wants_before (Read memory at n) others = others
-wants_before (Write memory at bytes) others = others
+abbrev pub wants_before : ℕ → Item → List Want → List Want
+wants_before place (Compare memory at bytes) others = wants_from place at bytes ++ others
+wants_before place (Read memory at n) others = others
+wants_before place (Write memory at bytes) others = others
 
 -- what the compare items want, in their order
-abbrev pub wants_of : List PlacedItem → List (ℕ × ℕ)
+abbrev pub wants_of : List PlacedItem → List Want
 wants_of [] = []
-wants_of (p ∷ items) = wants_before p.item (wants_of items)
+wants_of (p ∷ items) = wants_before p.place p.item (wants_of items)
 
-abbrev pub read_before : Item → List ℕ → List ℕ
+abbrev pub read_before : Item → List (List ℕ) → List (List ℕ)
 read_before (Compare memory at bytes) others = others
-read_before (Read memory at n) others = cells_from at n ++ others
+read_before (Read memory at n) others = cells_from at n ∷ others
 read_before (Write memory at bytes) others = others
 
--- the cells that the read items read, in their order
-abbrev pub read_cells : List PlacedItem → List ℕ
+-- the cells that each read item reads, in their order
+abbrev pub read_cells : List PlacedItem → List (List ℕ)
 read_cells [] = []
 read_cells (p ∷ items) = read_before p.item (read_cells items)
-
--- how many cells an item compares
-abbrev pub compared : Item → ℕ
-compared (Compare memory at bytes) = length bytes
-compared (Read memory at n) = 0
-compared (Write memory at bytes) = 0
-
--- the place of the item that compares the cell with this number among all that are compared
-abbrev pub item_of_cell : List PlacedItem → ℕ → Option ℕ
-item_of_cell [] i = None
-item_of_cell (p ∷ items) i = if nat_lt i (compared p.item) then Some p.place else item_of_cell items (i - compared p.item)
-
--- lists of bytes, one behind another
-abbrev pub joined : List (List ℕ) → List ℕ
-joined [] = []
-joined (bytes ∷ others) = bytes ++ joined others
 
 -- the byte that a write puts into a cell
 abbrev pub byte_in : WriteAt → ℕ → Option ℕ

@@ -1,5 +1,5 @@
 -- That a memory node votes as the machine of the transaction protocol does.
-use Rattle.std.specs.Prelude.{◌≡◌, ℕ, ◌<◌, Bool, List, [], ◌∷◌, length, get_or, Some, None, is_some, if◌then◌else◌}
+use Rattle.std.specs.Prelude.{◌≡◌, ℕ, ◌<◌, Bool, List, [], ◌∷◌, length, get_or, Some, None, if◌then◌else◌}
 use Rattle.mini_tx.specs.declared.message.Message.TheVariants as sent
 use Rattle.mini_tx.specs.declared.placed_item.PlacedItem.{PlacedItem}
 use Rattle.mini_tx.specs.declared.tx_id.TxId.{TxId}
@@ -7,19 +7,19 @@ use Rattle.mini_tx.specs.Laws.{IsTypedId}
 use Rattle.mem_node.specs.Fit.{AreInside}
 use Rattle.mem_node.specs.Rules as node
 use Rattle.mem_node.specs.State.{State, opened, after_one, kept_of}
-use Rattle.tx_rules.specs.Mini.{Setting}
-use Rattle.tx_rules.specs.World.{World, Event, Begins, Grants, Completes, Refuses, Commits, Aborts, Forgets, Posts, Done, AnswerOk, AnswerAbort, after, after_all}
+use Rattle.tx_rules.specs.Mini.{Setting, IsFresh}
+use Rattle.tx_rules.specs.World.{World, Event, Done, AnswerOk, AnswerAbort, after_all}
 use Rattle.tx_actors.specs.Machine.{appending}
 use Rattle.tx_actors.specs.Node as machine
-use Rattle.tx_actors.specs.Rules as rules
 use Rattle.mem_laws.specs.Cells.{number}
-use Rattle.mem_laws.specs.Shown.{IsTold, Shows, IsShownRule, IsShownReaction, IsSameReaction}
+use Rattle.mem_laws.specs.Shown.{IsTold, Shows, cut_held, shown_rule, IsShownReaction, IsSameReaction}
 
 -- a memory node shows in the machine, and so does what a prepare asks of it
 pub record IsAsked (s : Setting) (m : ℕ) (n : node.Node) (v : machine.View) (id : TxId) (participants : List ℕ) (items : List PlacedItem) : Type 0 where
   pub typed : IsTypedId id
   pub known : id.coord < length n.state.floors
   pub inside : AreInside (length n.state.image) items
+  pub fresh : IsFresh s (number id)
   pub told : IsTold s m id participants items
   pub shows : Shows s m n.state v
 
@@ -27,20 +27,20 @@ pub record IsAsked (s : Setting) (m : ℕ) (n : node.Node) (v : machine.View) (i
 abbrev pub RulesAreTheMachines : Type 0
 RulesAreTheMachines = (s : Setting) (m : ℕ) (n : node.Node) (v : machine.View) (id : TxId) (participants : List ℕ) (items : List PlacedItem)
     → IsAsked s m n v id participants items
-    → IsShownRule items (node.rule_for n id items) (rules.rule_for s m (is_some (node.held_cut n.copy)) v (number id))
+    → machine.rule_for s m (cut_held n.copy) v (number id) ≡ shown_rule (node.rule_for n id items)
 
 -- so are the entry that it appends and the vote that it sends
 abbrev pub VotesAreTheMachines : Type 0
 VotesAreTheMachines = (s : Setting) (m : ℕ) (n : node.Node) (v : machine.View) (id : TxId) (participants : List ℕ) (items : List PlacedItem)
     → IsAsked s m n v id participants items
-    → IsShownReaction s m id (node.on_prepare n id participants items) (machine.on_prepare s m (is_some (node.held_cut n.copy)) v (number id))
+    → IsShownReaction s m id (node.on_prepare n id participants items) (machine.on_prepare s m (cut_held n.copy) v (number id))
 
 -- and then it shows in the machine again
 abbrev pub StatesAreTheMachines : Type 0
 StatesAreTheMachines = (s : Setting) (m : ℕ) (n : node.Node) (w : World) (id : TxId) (participants : List ℕ) (items : List PlacedItem)
     → IsAsked s m n (machine.view w m) id participants items
     → Shows s m (after_one n.state (node.on_prepare n id participants items).entry)
-    (machine.view (after_all s w (appending s w m (machine.on_prepare s m (is_some (node.held_cut n.copy)) (machine.view w m) (number id)).appends)) m)
+    (machine.view (after_all s w (appending s w m (machine.on_prepare s m (cut_held n.copy) (machine.view w m) (number id)).appends)) m)
 
 -- a memory node shows in the machine, and a message names this identifier
 pub record IsNamed (s : Setting) (m : ℕ) (state : State) (v : machine.View) (id : TxId) : Type 0 where
@@ -58,7 +58,7 @@ DecisionsAreTheMachines = (s : Setting) (m : ℕ) (n : node.Node) (v : machine.V
 -- where it is forgotten
 abbrev pub ForgettingIsTheMachines : Type 0
 ForgettingIsTheMachines = (s : Setting) (m : ℕ) (n : node.Node) (v : machine.View) (id : TxId) → IsNamed s m n.state v id
-    → IsSameReaction (node.on_forget n id (kept_of n.state.kept id)) (machine.on_forget s v (number id)) None []
+    → IsSameReaction (node.on_forget n id (kept_of n.state.kept id)) (machine.on_forget s m v (number id)) None []
 
 -- and where it is asked about
 abbrev pub AnswersAreTheMachines : Type 0
@@ -75,28 +75,17 @@ DecisionsLeaveTheSame = (s : Setting) (m : ℕ) (n : node.Node) (w : World) (id 
 abbrev pub ForgettingLeavesTheSame : Type 0
 ForgettingLeavesTheSame = (s : Setting) (m : ℕ) (n : node.Node) (w : World) (id : TxId) → IsNamed s m n.state (machine.view w m) id
     → Shows s m (after_one n.state (node.on_forget n id (kept_of n.state.kept id)).entry)
-    (machine.view (after_all s w (appending s w m (machine.on_forget s (machine.view w m) (number id)).appends)) m)
+    (machine.view (after_all s w (appending s w m (machine.on_forget s m (machine.view w m) (number id)).appends)) m)
 
 abbrev pub AnswersLeaveTheSame : Type 0
 AnswersLeaveTheSame = (s : Setting) (m : ℕ) (n : node.Node) (w : World) (id : TxId) → IsNamed s m n.state (machine.view w m) id
     → Shows s m (after_one n.state (node.on_ask n id (kept_of n.state.kept id)).entry)
     (machine.view (after_all s w (appending s w m (machine.on_ask s m (machine.view w m) (number id)).appends)) m)
 
--- a memory node appends a record in this event
-abbrev pub IsAt : ℕ → Event → Type 0
-IsAt m (Begins t) = ⊥
-IsAt m (Grants n t) = m ≡ n
-IsAt m (Completes n t) = m ≡ n
-IsAt m (Refuses n t) = m ≡ n
-IsAt m (Commits n t) = m ≡ n
-IsAt m (Aborts n t) = m ≡ n
-IsAt m (Forgets n t) = m ≡ n
-IsAt m (Posts message) = ⊥
-
 -- what happens elsewhere changes nothing of it
 abbrev pub OthersLeaveIt : Type 0
-OthersLeaveIt = (s : Setting) (m : ℕ) (state : State) (w : World) (e : Event) → (IsAt m e → ⊥) → Shows s m state (machine.view w m)
-    → Shows s m state (machine.view (after s w e) m)
+OthersLeaveIt = (s : Setting) (m : ℕ) (state : State) (w : World) (events : List Event) → machine.AllElsewhere m events → Shows s m state (machine.view w m)
+    → Shows s m state (machine.view (after_all s w events) m)
 
 -- without entries it shows in a machine without records that holds the same bytes
 abbrev pub OpenedNodesShow : Type 0

@@ -1,3 +1,6 @@
 pub mod Cells
 pub mod Shown
 pub mod Laws
+pub mod Cuts
+pub mod Loaded
+pub mod Minis

@@ -1,5 +1,5 @@
 -- How what a memory node has, and what it does, shows in the machine of the transaction protocol.
-use Rattle.std.specs.Prelude.{◌≡◌, ◌≤◌, ◌+◌, ℕ, Bool, ◌||◌, true, List, [], ◌∷◌, length, map, Option, Some, None, is_some, if◌then◌else◌}
+use Rattle.std.specs.Prelude.{◌≡◌, ◌≤◌, ◌+◌, ℕ, Bool, ◌||◌, true, false, List, [], ◌∷◌, length, map, Option, Some, None, is_some, option_map, if◌then◌else◌, ⊤}
 use Rattle.std.specs.List.{AllByRecursion}
 use Rattle.mini_tx.specs.declared.entry.Entry.{Entry}
 use Rattle.mini_tx.specs.declared.entry.Entry.TheVariants as entry
@@ -20,12 +20,11 @@ use Rattle.mem_node.specs.Fit.{IsWriteInside}
 use Rattle.mem_node.specs.Items.{range_of, writes_of}
 use Rattle.mem_node.specs.Rules as node
 use Rattle.mem_node.specs.State.{State, floor_at, kept_of}
-use Rattle.tx_rules.specs.Mini.{In, Setting, nodes_of, cells_of, reads_of, is_logged}
-use Rattle.tx_rules.specs.Decision.{Record, Grant, Refuse, Commit, Abort, Forget}
+use Rattle.tx_rules.specs.Mini.{In, Setting, nodes_of, participants_at, cells_of, IsFresh, reads_of, is_logged}
+use Rattle.tx_rules.specs.Decision.{Reason, Forced, Held, Locked, Mismatch, Record, Grant, Commit, Abort, Forget}
 use Rattle.tx_rules.specs.World.{Message, Granted, Looked, Refused}
 use Rattle.tx_actors.specs.Node as machine
-use Rattle.tx_actors.specs.Rules as rules
-use Rattle.mem_laws.specs.Cells.{number, cells_from, cells_in, wants_of, read_cells, item_of_cell, joined, written_in}
+use Rattle.mem_laws.specs.Cells.{number, cut_number, cells_from, cells_in, wants_of, read_cells, written_in}
 
 -- ---- the part of a minitransaction
 
@@ -41,72 +40,100 @@ pub record IsTold (s : Setting) (m : ℕ) (id : TxId) (participants : List ℕ) 
 
 -- ---- what it has
 
--- a floor, and whether its vote is Granted
-abbrev pub shown_floor : Option Floor → Option (ℕ × Bool)
-shown_floor None = None
-shown_floor (Some floor) = Some (number floor.id, is_granted floor.vote)
+-- why a vote is not Granted
+abbrev pub reason_of : Vote → Option Reason
+reason_of (vote.Granted reads) = None
+reason_of (vote.Mismatch place kept) = Some (Mismatch place)
+reason_of (vote.Locked holder) = Some (Locked (number holder))
+reason_of (vote.Forced floor) = Some (Forced (number floor))
+reason_of (vote.Held cut) = Some (Held (cut_number cut))
 
--- the bytes of a vote
-abbrev pub bytes_of : Vote → List ℕ
-bytes_of (vote.Granted reads) = joined reads
+-- a floor, and why its vote is not Granted
+abbrev pub shown_floor : Option Floor → Option (ℕ × Option Reason)
+shown_floor None = None
+shown_floor (Some floor) = Some (number floor.id, reason_of floor.vote)
+
+-- the bytes of each read item in a vote
+abbrev pub bytes_of : Vote → List (List ℕ)
+bytes_of (vote.Granted reads) = reads
 bytes_of (vote.Mismatch place kept) = []
 bytes_of (vote.Locked holder) = []
 bytes_of (vote.Forced floor) = []
 bytes_of (vote.Held cut) = []
 
--- a Granted vote has an entry, which keeps the bytes that were seen
+-- a Granted vote on what was begun since the opening has an entry, which keeps the bytes that were seen
 abbrev pub IsShownVote : Setting → ℕ → machine.View → TxId → Vote → Type 0
 IsShownVote s m v id x =
-    is_granted x ≡ true → (is_logged (s.mini (number id)) ≡ true) × (bytes_of x ≡ reads_of s (number id) m (v.seen (number id)))
+    is_granted x ≡ true → IsFresh s (number id) → (is_logged (s.mini (number id)) ≡ true) × (bytes_of x ≡ reads_of s (number id) m (v.seen (number id)))
 
--- a kept record: a Granted vote, whose ranges are the cells that are locked until it is decided
+-- the record of a decision
+abbrev pub decision_on : ℕ → Bool → Record
+decision_on t true = Commit t
+decision_on t false = Abort t
+
+-- a kept record: a Granted vote, with the participants that the machine's record names, and with the decision that is
+-- logged; and until it is decided with ranges that are the locked cells, and with the writes
 pub record IsShownRecord (s : Setting) (m : ℕ) (v : machine.View) (k : Kept) : Type 0 where
   pub typed : IsTypedId k.id
   pub granted : is_granted k.vote ≡ true
   pub vote : IsShownVote s m v k.id k.vote
+  pub participants : k.participants ≡ participants_at s m (number k.id)
   pub undecided : machine.is_undecided v.records (number k.id) ≡ node.is_undecided k
+  pub decision : (commit : Bool) → k.decision ≡ Some commit → In (decision_on (number k.id) commit) v.records
   pub locked : node.is_undecided k ≡ true → cells_of s (number k.id) m ≡ cells_in k.ranges
-  pub written : (a : ℕ) → (s.mini (number k.id)).writes m a ≡ written_in k.writes a
+  pub written : node.is_undecided k ≡ true → (a : ℕ) → (s.mini (number k.id)).writes m a ≡ written_in k.writes a
+
+-- no identifier has two of these records
+abbrev pub AreDistinct : List Kept → Type 0
+AreDistinct [] = ⊤
+AreDistinct (k ∷ kept) = ((other : Kept) → In other kept → ¬ (number other.id ≡ number k.id)) × AreDistinct kept
 
 -- the machine's memory node has what this one has
 pub record Shows (s : Setting) (m : ℕ) (state : State) (v : machine.View) : Type 0 where
   pub floors : (c : ℕ) → machine.floor_of s v.records c ≡ shown_floor (floor_at state.floors c)
   pub votes : (c : ℕ) (floor : Floor) → floor_at state.floors c ≡ Some floor → IsTypedId floor.id × IsShownVote s m v floor.id floor.vote
-  pub kept : (id : TxId) → IsTypedId id → machine.is_kept s v.records (number id) ≡ is_some (kept_of state.kept id)
+  pub kept : (id : TxId) → IsTypedId id → machine.is_kept s m v.records (number id) ≡ is_some (kept_of state.kept id)
+  pub distinct : AreDistinct state.kept
   pub records : (k : Kept) → In k state.kept → IsShownRecord s m v k
   pub within : (k : Kept) → In k state.kept → AllByRecursion (IsWriteInside (length state.image)) k.writes
   pub undecided : (t : ℕ) → machine.is_undecided v.records t ≡ true → (k : Kept) × In k state.kept × (number k.id ≡ t)
   -- what is decided or forgotten was granted
   pub granted : (t : ℕ) → (machine.has_decision v.records t || machine.has_forget v.records t) ≡ true → machine.has_grant v.records t ≡ true
+  -- what the machine's memory node keeps is an identifier
+  pub typed : (t : ℕ) → machine.is_kept s m v.records t ≡ true → (k : Kept) × In k state.kept × (number k.id ≡ t)
   -- the bytes from a place on are those of its cells
   pub image : (at n : ℕ) → at + n ≤ length state.image → bytes_at state.image at n ≡ map v.image (cells_from at n)
 
 -- ---- what it does
 
--- the machine names the same rule; where it names the compared cell that differs, that is a cell of the item
-abbrev pub IsShownRule : List PlacedItem → Rule → rules.Rule → Type 0
-IsShownRule items (RecordAgain x) rule = rule ≡ rules.RecordAgain
-IsShownRule items (FloorAgain x) rule = rule ≡ rules.FloorAgain (is_granted x)
-IsShownRule items (ForcedBy floor) rule = rule ≡ rules.ForcedBy (number floor)
-IsShownRule items (HeldBy cut) rule = rule ≡ rules.HeldBack
-IsShownRule items (LockedBy holder) rule = rule ≡ rules.LockedBy (number holder)
-IsShownRule items (MismatchAt difference) rule = (i : ℕ) × (rule ≡ rules.MismatchAt i) × (item_of_cell items i ≡ Some difference.place)
-IsShownRule items Passes rule = rule ≡ rules.Passes
+-- the cut that it holds
+abbrev pub cut_held : Option node.Copy → Option ℕ
+cut_held copy = option_map cut_number (node.held_cut copy)
+
+-- the machine's rule
+abbrev pub shown_rule : Rule → machine.Rule
+shown_rule (RecordAgain x) = machine.RecordAgain
+shown_rule (FloorAgain x) = machine.FloorAgain (reason_of x)
+shown_rule (ForcedBy floor) = machine.BelowFloor (number floor)
+shown_rule (HeldBy cut) = machine.Against (Held (cut_number cut))
+shown_rule (LockedBy holder) = machine.Against (Locked (number holder))
+shown_rule (MismatchAt difference) = machine.Against (Mismatch difference.place)
+shown_rule Passes = machine.Passes
 
 -- the message of a vote; a Granted one without an entry is a look
 abbrev pub posted : ℕ → ℕ → Bool → Vote → Message
-posted m t has_entry (vote.Granted reads) = if has_entry then Granted m t (joined reads) else Looked m t (joined reads)
-posted m t has_entry (vote.Mismatch place kept) = Refused m t
-posted m t has_entry (vote.Locked holder) = Refused m t
-posted m t has_entry (vote.Forced floor) = Refused m t
-posted m t has_entry (vote.Held cut) = Refused m t
+posted m t has_entry (vote.Granted reads) = if has_entry then Granted m t reads else Looked m t reads
+posted m t has_entry (vote.Mismatch place kept) = Refused m t (Mismatch place)
+posted m t has_entry (vote.Locked holder) = Refused m t (Locked (number holder))
+posted m t has_entry (vote.Forced floor) = Refused m t (Forced (number floor))
+posted m t has_entry (vote.Held cut) = Refused m t (Held (cut_number cut))
 
 -- a vote of one participant is granted and then committed at once
 abbrev pub records_of : Option Entry → List Record
 records_of None = []
 records_of (Some (entry.Single id x writes)) = Grant (number id) ∷ Commit (number id) ∷ []
 records_of (Some (entry.Prepared id participants x ranges writes)) = Grant (number id) ∷ []
-records_of (Some (entry.Refused id x)) = Refuse (number id) ∷ []
+records_of (Some (entry.Refused id x)) = machine.cast_as (reason_of x) (number id) ∷ []
 records_of (Some (entry.Decided id commit)) = (if commit then Commit (number id) else Abort (number id)) ∷ []
 records_of (Some (entry.Forgotten id)) = Forget (number id) ∷ []
 records_of (Some (entry.Cut cut)) = []

@@ -1,4 +1,7 @@
 //! Laws of a memory node's rules and of the machine's.
+ghost use Rattle.mem_laws.specs.Cuts.{ListsAreTheMachines, HeldCutsAreTheMachines, ListedCutsAreTheMachines, HoldsAreTheMachines, ReleasesAreTheMachines, DropsAreTheMachines, ReadsAreTheMachines};
+ghost use Rattle.mem_laws.specs.Loaded.{LoadedNodesShow};
+ghost use Rattle.mem_laws.specs.Minis.{ParticipantsAreTheTables, ValidMinisFit, MinisAreTold, MinisMatchAlike, MinisReadAlike, MinisWriteAlike, FlatMemoriesAreAlike};
 ghost use Rattle.mem_laws.specs.Laws.{RulesAreTheMachines, VotesAreTheMachines, StatesAreTheMachines, DecisionsAreTheMachines, ForgettingIsTheMachines, AnswersAreTheMachines, DecisionsLeaveTheSame, ForgettingLeavesTheSame, AnswersLeaveTheSame, OthersLeaveIt, OpenedNodesShow};
 
 /// A memory node finds the rule that the machine finds.
@@ -54,4 +57,79 @@ pub fn others_leave_it()
 /// Without entries a memory node shows in a machine without records.
 pub fn opened_nodes_show()
     ensures { OpenedNodesShow }
+{}
+
+/// A memory node names in an answer to `list` what the machine names, in the same order, with the same participants.
+pub fn lists_are_the_machines()
+    ensures { ListsAreTheMachines }
+{}
+
+/// It holds the cut that the machine holds.
+pub fn held_cuts_are_the_machines()
+    ensures { HeldCutsAreTheMachines }
+{}
+
+/// The cut that its answer to `list` names is the one that the machine sends.
+pub fn listed_cuts_are_the_machines()
+    ensures { ListedCutsAreTheMachines }
+{}
+
+/// It does with `hold` what the machine does, and shows in it again.
+pub fn holds_are_the_machines()
+    ensures { HoldsAreTheMachines }
+{}
+
+/// And with `release`.
+pub fn releases_are_the_machines()
+    ensures { ReleasesAreTheMachines }
+{}
+
+/// And with `drop`.
+pub fn drops_are_the_machines()
+    ensures { DropsAreTheMachines }
+{}
+
+/// And with `read`: the piece has the bytes of the machine.
+pub fn reads_are_the_machines()
+    ensures { ReadsAreTheMachines }
+{}
+
+/// A state that a load finds shows in a machine that is opened from states, floors without a record included.
+pub fn loaded_nodes_show()
+    ensures { LoadedNodesShow }
+{}
+
+/// A valid minitransaction over byte lists gives an entry of the table that fits.
+pub fn valid_minis_fit()
+    ensures { ValidMinisFit }
+{}
+
+/// Where the table has it, each participant is told its own items.
+pub fn minis_are_told()
+    ensures { MinisAreTold }
+{}
+
+/// The same compare items match over bytes and over cells.
+pub fn minis_match_alike()
+    ensures { MinisMatchAlike }
+{}
+
+/// The same bytes are read at each memory node.
+pub fn minis_read_alike()
+    ensures { MinisReadAlike }
+{}
+
+/// The same bytes stand after the writes.
+pub fn minis_write_alike()
+    ensures { MinisWriteAlike }
+{}
+
+/// The flat memory of cells is the one of bytes, at each place of the history.
+pub fn flat_memories_are_alike()
+    ensures { FlatMemoriesAreAlike }
+{}
+
+/// The participants of a minitransaction over byte lists are those of its entry.
+pub fn participants_are_the_tables()
+    ensures { ParticipantsAreTheTables }
 {}

@@ -2,17 +2,14 @@
 use Rattle.std.proofs.Common.{◌≡◌, ℕ, ◌==◌, Bool, true, false, not, cond, ◌&&◌, List, [], ◌∷◌, ◌++◌, map, filter, length, ◌-◌, Option, Some, None, ◌⊎◌, inl, inr, refl, sym, ◌∙◌, subst, arith}
 use Rattle.std.proofs.lemmas.Bool.{and_parts, eqb-true, cases_Bool}
 use Rattle.tx_rules.specs.Mini.{In, has_several, is_logged, Setting, nodes_of, IsReader}
-use Rattle.tx_rules.specs.Decision.{IsGranted, IsCommitted, IsAborted}
+use Rattle.tx_rules.specs.Decision.{Reason, IsGranted, IsCommitted, IsAborted}
 use Rattle.tx_rules.specs.World.{Message, Granted, Looked, Refused, Done, Forgotten, World, Promises}
-use Rattle.tx_rules.proofs.FaithfulLemmas.{IsFaithful, in_either}
-use Rattle.tx_actors.specs.Tests.{is_in, all_in}
+use Rattle.tx_rules.proofs.FaithfulLemmas.{IsFaithful, in_either, outdated}
+use Rattle.tx_rules.specs.Lists.{is_in, all_in}
 use Rattle.tx_actors.specs.Coordinator.{Running, Finishing, Coordinator, Outcome, Committed, Failed, stays, decide, newest, ended, counted, takes, hear_granted, hear_refused, noted, is_done, hear_done, give_up, prepares, resend, new_boot}
 use Rattle.tx_actors.specs.Laws.{IsVote, OutcomeStands}
-use Rattle.tx_actors.proofs.TestLemmas.{not_two, or_left, is_in-In, all_in-In, In-filter, In-drop, In-map}
+use Rattle.tx_actors.proofs.TestLemmas.{some_is, not_two, or_left, is_in-In, all_in-In, In-filter, In-drop, In-map}
 use Rattle.tx_actors.proofs.FitLemmas.{MayPost, decide_plain, decide_begun, FitsRunning, FitsFinishing, FitsCoordinator, IsFine}
-
-pub some_is : {A : Type 0} (x y : A) → ◌≡◌ {A = Option A} (Some x) (Some y) → x ≡ y
-some_is x y e = cc
 
 module _ (s : Setting) (w : World) (f : IsFaithful s w) (c : ℕ) (x : Coordinator) (fits : FitsCoordinator s w c x) where
   pub stays_fine : IsFine s w c (stays x)
@@ -46,7 +43,7 @@ module _ (s : Setting) (w : World) (f : IsFaithful s w) (c : ℕ) (x : Coordinat
       prepared : (p : Message) (o : Option Running) → x.running ≡ o → In p (prepares o) → MayPost s w p
       prepared p None is h = absurd h
       prepared p (Some r) is h = elim h [
-        | inl e ↦ subst (MayPost s w) (sym e) (((fits.running r is).begun, (fits.running r is).fresh), λ v. tt)
+        | inl e ↦ subst (MayPost s w) (sym e) (((fits.running r is).begun, (fits.running r is).fresh), (tt, λ v. tt))
         | inr none ↦ absurd none
       ]
 
@@ -92,7 +89,7 @@ module _ (s : Setting) (w : World) (f : IsFaithful s w) (c : ℕ) (x : Coordinat
 
   module _ (r : Running) (fit : FitsRunning s w c r) where
     -- with the votes of all participants
-    all_voted : (votes : List (ℕ × List ℕ)) → ((v : ℕ × List ℕ) → In v votes → IsVote s w r.id v) → ((m : ℕ) → In m (nodes_of s r.id) → In m (map (λ v. v.0) votes))
+    all_voted : (votes : List (ℕ × List (List ℕ))) → ((v : ℕ × List (List ℕ)) → In v votes → IsVote s w r.id v) → ((m : ℕ) → In m (nodes_of s r.id) → In m (map (λ v. v.0) votes))
         → is_logged (s.mini r.id) ≡ true → IsCommitted s w.log r.id
     all_voted votes are all logged m is =
         let it = In-map (λ v. v.0) m votes (all m is) in
@@ -101,10 +98,10 @@ module _ (s : Setting) (w : World) (f : IsFaithful s w) (c : ℕ) (x : Coordinat
           | inr h ↦ absurd (not_two (is_logged (s.mini r.id)) logged (f.promises (Looked it.0.0 r.id it.0.1) h).3)
         ]
 
-    counted_fine : (v : ℕ × List ℕ) → IsVote s w r.id v → IsFine s w c (counted s x r v)
+    counted_fine : (v : ℕ × List (List ℕ)) → IsVote s w r.id v → IsFine s w c (counted s x r v)
     counted_fine v vote = go (all_in (nodes_of s r.id) (map (λ y. y.0) (v ∷ r.votes))) refl
       where
-        are : (y : ℕ × List ℕ) → In y (v ∷ r.votes) → IsVote s w r.id y
+        are : (y : ℕ × List (List ℕ)) → In y (v ∷ r.votes) → IsVote s w r.id y
         are y h = elim h [ inl e ↦ subst (IsVote s w r.id) (sym e) vote | inr before ↦ fit.votes y before ]
 
         go : (b : Bool) → all_in (nodes_of s r.id) (map (λ y. y.0) (v ∷ r.votes)) ≡ b
@@ -129,14 +126,15 @@ module _ (s : Setting) (w : World) (f : IsFaithful s w) (c : ℕ) (x : Coordinat
         }
 
     -- another vote
-    refused_ends : (m : ℕ) → In m (nodes_of s r.id) → Promises s w (Refused m r.id) → IsFine s w c (ended s x r.id false (Failed r.id))
-    refused_ends m is promise =
+    refused_ends : (m : ℕ) (why : Reason) → In m (nodes_of s r.id) → In (Refused m r.id why) w.posted → IsFine s w c (ended s x r.id false (Failed r.id m why))
+    refused_ends m why is posted =
+        let promise = f.promises (Refused m r.id why) posted in
         let how : IsAborted s w.log r.id ⊎ IsReader s r.id = elim promise.2 [
-          | inl refused ↦ inl (record { node = m; participant = is; refused = refused })
-          | inr (inl old) ↦ absurd (let low = fit.newest old.newer old.begun (old.same ∙ fit.here) in let high = old.above in omega (arith, low, high))
+          | inl refused ↦ inl (record { node = m; participant = is; refused = refused.1 })
+          | inr (inl forced) ↦ absurd (let old = outdated s w f m r.id why forced in let low = fit.newest old.newer old.begun (old.same ∙ fit.here) in let high = old.above in omega (arith, low, high))
           | inr (inr reader) ↦ inr reader
         ] in
-        ended_fine r.id false (Failed r.id)
+        ended_fine r.id false (Failed r.id m why)
         (λ several. (
           fit.begun,
           λ live. (
@@ -147,7 +145,7 @@ module _ (s : Setting) (w : World) (f : IsFaithful s w) (c : ℕ) (x : Coordinat
             ],
           ),
         ))
-        (fit.begun, fit.fresh.0, how)
+        (fit.begun, fit.fresh.0, how, is, posted)
 
   -- a vote that is taken names the running identifier and is a participant's
   taken : (r : Running) (m t : ℕ) → takes s r m t ≡ true → (r.id ≡ t) × In m (nodes_of s r.id)
@@ -155,7 +153,7 @@ module _ (s : Setting) (w : World) (f : IsFaithful s w) (c : ℕ) (x : Coordinat
       let both = and_parts (r.id == t) (is_in m (nodes_of s r.id) && not (is_in m (map (λ v. v.0) r.votes))) h in
       (eqb-true r.id t both.0, is_in-In m (nodes_of s r.id) (and_parts (is_in m (nodes_of s r.id)) (not (is_in m (map (λ v. v.0) r.votes))) both.1).0)
 
-  pub hear_granted_fine : (m t : ℕ) (bytes : List ℕ) (o : Option Running) → x.running ≡ o
+  pub hear_granted_fine : (m t : ℕ) (bytes : List (List ℕ)) (o : Option Running) → x.running ≡ o
       → In (Granted m t bytes) w.posted ⊎ In (Looked m t bytes) w.posted → IsFine s w c (hear_granted s x m t bytes o)
   hear_granted_fine m t bytes None is posted = stays_fine
   hear_granted_fine m t bytes (Some r) is posted = go (takes s r m t) refl
@@ -166,14 +164,14 @@ module _ (s : Setting) (w : World) (f : IsFaithful s w) (c : ℕ) (x : Coordinat
           counted_fine r (fits.running r is) (m, bytes) (it.1, subst (λ k. In (Granted m k bytes) w.posted ⊎ In (Looked m k bytes) w.posted) (sym it.0) posted)
       go false h = stays_fine
 
-  pub hear_refused_fine : (m t : ℕ) (o : Option Running) → x.running ≡ o → Promises s w (Refused m t) → IsFine s w c (hear_refused s x m t o)
-  hear_refused_fine m t None is promise = stays_fine
-  hear_refused_fine m t (Some r) is promise = go (takes s r m t) refl
+  pub hear_refused_fine : (m t : ℕ) (why : Reason) (o : Option Running) → x.running ≡ o → In (Refused m t why) w.posted → IsFine s w c (hear_refused s x m t why o)
+  hear_refused_fine m t why None is posted = stays_fine
+  hear_refused_fine m t why (Some r) is posted = go (takes s r m t) refl
     where
-      go : (b : Bool) → takes s r m t ≡ b → IsFine s w c (cond b (ended s x r.id false (Failed r.id)) (stays x))
+      go : (b : Bool) → takes s r m t ≡ b → IsFine s w c (cond b (ended s x r.id false (Failed r.id m why)) (stays x))
       go true h =
           let it = taken r m t h in
-          refused_ends r (fits.running r is) m it.1 (subst (λ k. Promises s w (Refused m k)) (sym it.0) promise)
+          refused_ends r (fits.running r is) m why it.1 (subst (λ k. In (Refused m k why) w.posted) (sym it.0) posted)
       go false h = stays_fine
 
   -- `done`
@@ -206,7 +204,7 @@ module _ (s : Setting) (w : World) (f : IsFaithful s w) (c : ℕ) (x : Coordinat
             decide_begun s w it.0.commits it.0.id fit.decided,
             λ live n is. (fit.done n (all_in-In (nodes_of s it.0.id) it.0.done done.1 n is)).1 live,
           ),
-          λ v. tt,
+          (tt, λ v. tt),
         );
     ends = λ o h. absurd h;
   }

@@ -1,8 +1,8 @@
 -- What holds of coordinators and of the manager between any two events.
 use Rattle.std.proofs.Common.{◌≡◌, ℕ, ◌<◌, ◌≤◌, Bool, true, false, cond, List, [], ◌∷◌, map, Some, inl, inr, refl}
-use Rattle.tx_rules.specs.Mini.{In, Setting, IsFresh}
+use Rattle.tx_rules.specs.Mini.{In, Setting, nodes_of, IsLive, IsFresh}
 use Rattle.tx_rules.specs.Decision.{Record, Grant, Refuse, Commit, Abort, Forget}
-use Rattle.tx_rules.specs.World.{Message, Done, Ask, AnswerOk, World, Promises, AtPosting, Event, Begins, Grants, Completes, Refuses, Commits, Aborts, Forgets, Posts, May, after, IsRun, after_all}
+use Rattle.tx_rules.specs.World.{Message, Refused, Done, Ask, AnswerOk, World, Promises, AtPosting, Event, Begins, Grants, Completes, Refuses, Commits, Aborts, Forgets, Posts, May, after, IsRun, after_all}
 use Rattle.tx_rules.proofs.GrowthLemmas.{Grows, promises_grow, committed_grows, aborted_grows, grows}
 use Rattle.tx_rules.proofs.SoundLemmas.{grows_all}
 use Rattle.tx_actors.specs.Coordinator.{Running, Finishing, Coordinator, Outcome, Committed, Failed, Act, decide}
@@ -21,7 +21,7 @@ posted_after : (s : Setting) (w : World) (e : Event) (p : Message) → In p w.po
 posted_after s w (Begins t) p h = h
 posted_after s w (Grants m t) p h = h
 posted_after s w (Completes m t) p h = h
-posted_after s w (Refuses m t) p h = h
+posted_after s w (Refuses m t why) p h = h
 posted_after s w (Commits m t) p h = h
 posted_after s w (Aborts m t) p h = h
 posted_after s w (Forgets m t) p h = h
@@ -39,7 +39,7 @@ begun_after : (s : Setting) (w : World) (e : Event) (t : ℕ) → In t w.begun �
 begun_after s w (Begins u) t h = inr h
 begun_after s w (Grants m u) t h = h
 begun_after s w (Completes m u) t h = h
-begun_after s w (Refuses m u) t h = h
+begun_after s w (Refuses m u why) t h = h
 begun_after s w (Commits m u) t h = h
 begun_after s w (Aborts m u) t h = h
 begun_after s w (Forgets m u) t h = h
@@ -60,7 +60,7 @@ record_begins s w m (Grant u) t h = go _ h
     go : (b : Bool) → In t (after s w (cond b (Completes m u) (Grants m u))).begun → In t w.begun
     go true k = k
     go false k = k
-record_begins s w m (Refuse u) t h = h
+record_begins s w m (Refuse u why) t h = h
 record_begins s w m (Commit u) t h = h
 record_begins s w m (Abort u) t h = h
 record_begins s w m (Forget u) t h = h
@@ -71,9 +71,14 @@ appending_begins s w m (r ∷ rs) t h = record_begins s w m r t (appending_begin
 
 -- ---- posting
 
--- a message that may be posted wherever its promise holds
+-- it is no refusal
+abbrev pub IsNoRefusal : Message → Type 0
+IsNoRefusal (Refused m t why) = ⊥
+IsNoRefusal p = Unit {0}
+
+-- a message that is no refusal, and may be posted wherever its promise holds
 abbrev pub IsPlain : Setting → Message → Type 0
-IsPlain s p = (w : World) → AtPosting s w p
+IsPlain s p = IsNoRefusal p × ((w : World) → AtPosting s w p)
 
 abbrev pub MayPost : Setting → World → Message → Type 0
 MayPost s w p = Promises s w p × IsPlain s p
@@ -82,15 +87,15 @@ pub posts_run : (s : Setting) (w : World) (posts : List Message) → ((p : Messa
 posts_run s w [] all = tt
 posts_run s w (p ∷ posts) all =
     let first = all p (inl refl) in
-    let may : May s w (Posts p) = (first.0, first.1 w) in (
+    let may : May s w (Posts p) = (first.0, first.1.1 w) in (
       may,
       posts_run s (after s w (Posts p)) posts (λ q h.
           (promises_grow s w (after s w (Posts p)) (grows s w (Posts p) may) q (all q (inr h)).0, (all q (inr h)).1)),
     )
 
 pub decide_plain : (s : Setting) (commits : Bool) (t : ℕ) → IsPlain s (decide commits t)
-decide_plain s true t w = tt
-decide_plain s false t w = tt
+decide_plain s true t = (tt, λ w. tt)
+decide_plain s false t = (tt, λ w. tt)
 
 -- what is decided was begun
 pub decide_begun : (s : Setting) (w : World) (commits : Bool) (t : ℕ) → Promises s w (decide commits t) → In t w.begun
@@ -104,7 +109,7 @@ pub record FitsRunning (s : Setting) (w : World) (c : ℕ) (r : Running) : Type 
   pub fresh : IsFresh s r.id
   pub here : s.coord r.id ≡ c
   pub newest : (u : ℕ) → In u w.begun → s.coord u ≡ c → u ≤ r.id
-  pub votes : (v : ℕ × List ℕ) → In v r.votes → IsVote s w r.id v
+  pub votes : (v : ℕ × List (List ℕ)) → In v r.votes → IsVote s w r.id v
 
 pub record FitsFinishing (s : Setting) (w : World) (f : Finishing) : Type 0 where
   pub decided : Promises s w (decide f.commits f.id)
@@ -116,13 +121,14 @@ pub record FitsCoordinator (s : Setting) (w : World) (c : ℕ) (x : Coordinator)
   pub next : (u : ℕ) → In u w.begun → s.coord u ≡ c → u < x.next
 
 pub record FitsWork (s : Setting) (w : World) (x : Work) : Type 0 where
+  pub named : IsLive s x.id → x.nodes ≡ nodes_of s x.id
   pub known : Promises s w (Ask x.id)
   pub oks : (m : ℕ) → In m x.oks → Promises s w (AnswerOk m x.id)
   pub decided : (commits : Bool) → x.decision ≡ Some commits → Promises s w (decide commits x.id)
   pub done : (m : ℕ) → In m x.done → Promises s w (Done m x.id)
 
 module _ (s : Setting) (w v : World) (l : IsLater s w v) where
-  pub vote_later : (t : ℕ) (x : ℕ × List ℕ) → IsVote s w t x → IsVote s v t x
+  pub vote_later : (t : ℕ) (x : ℕ × List (List ℕ)) → IsVote s w t x → IsVote s v t x
   vote_later t x h = (h.0, elim h.1 [ inl g ↦ inl (l.posted _ g) | inr k ↦ inr (l.posted _ k) ])
 
   pub finishing_later : (f : Finishing) → FitsFinishing s w f → FitsFinishing s v f
@@ -146,6 +152,7 @@ module _ (s : Setting) (w v : World) (l : IsLater s w v) where
 
   pub work_later : (x : Work) → FitsWork s w x → FitsWork s v x
   work_later x h = record {
+    named = h.named;
     known = promises_grow s w v l.grows (Ask x.id) h.known;
     oks = λ m is. promises_grow s w v l.grows (AnswerOk m x.id) (h.oks m is);
     decided = λ commits is. promises_grow s w v l.grows (decide commits x.id) (h.decided commits is);
@@ -155,7 +162,8 @@ module _ (s : Setting) (w v : World) (l : IsLater s w v) where
   pub outcome_later : (o : Outcome) → OutcomeStands s w o → OutcomeStands s v o
   outcome_later (Committed t votes) h =
       (l.grows.begun t h.0, h.1, elim h.2 [ inl c ↦ inl (committed_grows s w v l.grows t c) | inr r ↦ inr r ], λ x k. vote_later t x (h.3 x k), h.4)
-  outcome_later (Failed t) h = (l.grows.begun t h.0, h.1, elim h.2 [ inl a ↦ inl (aborted_grows s w v l.grows t a) | inr r ↦ inr r ])
+  outcome_later (Failed t m why) h =
+      (l.grows.begun t h.0, h.1, elim h.2 [ inl a ↦ inl (aborted_grows s w v l.grows t a) | inr r ↦ inr r ], h.3, l.posted (Refused m t why) h.4)
 
 -- an act that the rules allow
 pub record IsFine (s : Setting) (w : World) (c : ℕ) (a : Act) : Type 0 where

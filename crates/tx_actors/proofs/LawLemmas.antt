@@ -1,21 +1,22 @@
 -- The laws.
-use Rattle.std.proofs.Common.{◌≡◌, ℕ, ◌+◌, ◌*◌, ◌/◌, ◌^◌, ◌==◌, Bool, true, false, cond, List, [], ◌∷◌, ◌++◌, Option, Some, None, unwrap_or, inl, inr, refl, sym, ap, ◌∙◌, subst, arith, append_assoc}
-use Rattle.std.proofs.lemmas.Bool.{eq-eqb, ne_eqb, cases_eq, cases_order, cases_Bool}
+use Rattle.std.proofs.Common.{◌≡◌, ℕ, ◌+◌, ◌*◌, ◌/◌, ◌^◌, ◌<◌, ◌==◌, Bool, true, false, cond, List, [], ◌∷◌, ◌++◌, length, Option, Some, None, unwrap_or, inl, inr, refl, sym, ap, ◌∙◌, subst, arith, append_assoc}
+use Rattle.std.proofs.lemmas.Bool.{eqb-true, eq-eqb, ne_eqb, cases_eq, cases_order, cases_Bool}
 use Rattle.std.proofs.lemmas.Nat.{div-mul-add}
+use Rattle.std.proofs.lemmas.List.{length-append}
 use Rattle.tx_rules.specs.Mini.{In, is_logged, Setting, nodes_of, reads_of, flat, with_writes}
 use Rattle.tx_rules.specs.Decision.{Record, Grant, Refuse, Commit, Abort, Forget, Entry, At, IsPassed}
 use Rattle.tx_rules.specs.World.{Message, Prepare, Granted, Looked, Refused, DecideCommit, DecideAbort, Done, Forgotten, ListKept, Kept, Ask, AnswerOk, AnswerAbort, World, Event, Begins, Grants, Completes, Refuses, Commits, Aborts, Forgets, Posts, after}
 use Rattle.tx_rules.proofs.FaithfulLemmas.{not_both, in_back}
-use Rattle.tx_rules.proofs.LawLemmas.{reads_are_flat, looks_had_their_moment}
+use Rattle.tx_rules.proofs.LawLemmas.{reads_are_flat, looks_had_their_moment, refusals_had_their_reason}
 use Rattle.tx_actors.specs.Node.{own, is_kept, Standing, Above, Same, Below, standing, replayed}
 use Rattle.tx_actors.specs.Coordinator.{Outcome, Committed, Failed, may_begin, begin}
 use Rattle.tx_actors.specs.Machine.{State, Input, Begin, ToNode, ToStoppingNode, ToCoordinator, ToManager, GiveUp, Resend, BootCoordinator, BootNode, Sweep, ResendManager, BootManager, numbered, idle, acts, to_node, to_coordinator, to_manager, step, steps, events_of, opened_at}
-use Rattle.tx_actors.specs.Laws.{StatesAreRuns, OutcomesStand, OutcomesStay, FailedNeverCommits, CommittedReadsAreFlat, LooksOfOutcomesAreFlat, ReactionsAreAllowed, UndecidedIsOpen, AboveIsNotPassed, FloorsAreGreatest, RecordsAreKept, ImagesAreReplayed}
+use Rattle.tx_actors.specs.Laws.{NumbersStay, StepsJoin, StatesAreRuns, LooksHaveTheirMoment, FailuresHadTheirReason, BegunIsBelow, LiveAreNamedByAll, OutcomesStand, OutcomesStay, FailedNeverCommits, CommittedReadsAreFlat, LooksOfOutcomesAreFlat, ReactionsAreAllowed, UndecidedIsOpen, AboveIsNotPassed, FloorsAreGreatest, RecordsAreKept, ImagesAreReplayed}
 use Rattle.tx_actors.specs.Numbers.{identifier, IdentifiersAreOrdered, IdentifiersTellTheirCoordinator}
 use Rattle.tx_actors.specs.Sample.{SampleEndsWell, MessagesMayDisagree}
-use Rattle.tx_actors.proofs.TestLemmas.{not_two}
+use Rattle.tx_actors.proofs.TestLemmas.{some_is, not_two}
 use Rattle.tx_actors.proofs.NodeLemmas.{handle_good}
-use Rattle.tx_actors.proofs.RecordLemmas.{IsFloor, floor_is, kept_is, not_kept, kept_remembered, StandsSo, standing_is, cast_log, above_not_passed, open_is, is_open}
+use Rattle.tx_actors.proofs.RecordLemmas.{IsFloor, floor_is, kept_is, not_kept, kept_remembered, StandsSo, standing_is, cast_log, below_log, live_named, above_not_passed, open_is, is_open}
 use Rattle.tx_actors.proofs.MachineLemmas.{steps_reach, opening_fit}
 
 pub states_are_runs : StatesAreRuns
@@ -30,10 +31,10 @@ outcomes_stand s log image next o above inputs fitting =
     (steps_reach s (opened_at s log image next) inputs (opening_fit s log image next o above) fitting).fit.outcomes
 
 pub failed_never_commits : FailedNeverCommits
-failed_never_commits s log image next o above inputs fitting t ended committed =
+failed_never_commits s log image next o above inputs fitting t m why ended committed =
     let st = steps s (opened_at s log image next) inputs in
     let fit = (steps_reach s (opened_at s log image next) inputs (opening_fit s log image next o above) fitting).fit in
-    let stands = fit.outcomes (Failed t) ended in
+    let stands = fit.outcomes (Failed t m why) ended in
     elim stands.2 [
       | inl aborted ↦ not_both s st.world.log t committed aborted
       | inr reader ↦
@@ -49,12 +50,50 @@ committed_reads_are_flat s log image next o above inputs fitting t votes ended l
     let vote = stands.3 v counted in
     elim vote.1 [
       | inl posted ↦ subst
-          (λ (w : World). (m u : ℕ) (bytes : List ℕ) → In (Granted m u bytes) w.posted → In m (nodes_of s u)
+          (λ (w : World). (m u : ℕ) (bytes : List (List ℕ)) → In (Granted m u bytes) w.posted → In m (nodes_of s u)
           → (later before : List ℕ) → w.points ≡ later ++ u ∷ before → bytes ≡ reads_of s u m (flat s before m))
           (sym r.world) (reads_are_flat s log image o (events_of s (opened_at s log image next) inputs) r.run)
           v.0 t v.1 posted vote.0 later before split
       | inr posted ↦ absurd (not_two (is_logged (s.mini t)) logged (r.fit.sound.faithful.promises (Looked v.0 t v.1) posted).3)
     ]
+
+-- an element of a list stands between others
+in_split : (p : Message) (ps : List Message) → In p ps → (later before : List Message) × (ps ≡ later ++ p ∷ before)
+in_split p [] h = absurd h
+in_split p (q ∷ ps) h = elim h [
+  | inl e ↦ ([], ps, ap (λ (x : Message). x ∷ ps) (sym e))
+  | inr rest ↦ let it = in_split p ps rest in (q ∷ it.0, it.1, ap (λ (xs : List Message). q ∷ xs) it.2)
+]
+
+-- a message with a number stands before as many
+numbered_split : (ps : List Message) (k : ℕ) (p : Message) → numbered ps k ≡ Some p → (later before : List Message) × (ps ≡ later ++ p ∷ before) × (length before ≡ k)
+numbered_split [] k p h = absurd cc
+numbered_split (q ∷ ps) k p h = go (length ps == k) refl (numbered_split ps k p) h
+  where
+    go : (b : Bool) → (length ps == k) ≡ b → (numbered ps k ≡ Some p → (later before : List Message) × (ps ≡ later ++ p ∷ before) × (length before ≡ k))
+        → cond b (Some q) (numbered ps k) ≡ Some p → (later before : List Message) × (q ∷ ps ≡ later ++ p ∷ before) × (length before ≡ k)
+    go true is rest e = ([], ps, ap (λ (x : Message). x ∷ ps) (some_is q p e), eqb-true (length ps) k is)
+    go false is rest e = let it = rest e in (q ∷ it.0, it.1, ap (λ (xs : List Message). q ∷ xs) it.2, it.3)
+
+-- a number that is given is below how many were posted
+number_below : (ps : List Message) (k : ℕ) (p : Message) → numbered ps k ≡ Some p → k < length ps
+number_below ps k p h =
+    let it = numbered_split ps k p h in
+    let size = ap (λ (xs : List Message). length xs) it.2 ∙ length-append it.0 (p ∷ it.1) in
+    let here = it.3 in
+    omega (arith, size, here)
+
+pub numbers_stay : NumbersStay
+numbers_stay [] posted k p h = h
+numbers_stay (q ∷ later) posted k p h =
+    let below = number_below posted k p h in
+    let size = length-append later posted in
+    ap (λ (b : Bool). cond b (Some q) (numbered (later ++ posted) k)) (ne_eqb (length (later ++ posted)) k (λ e. omega (arith, e, below, size)))
+    ∙ numbers_stay later posted k p h
+
+pub steps_join : StepsJoin
+steps_join s st [] more = refl
+steps_join s st (x ∷ first) more = steps_join s (step s st x) first more
 
 pub looks_of_outcomes_are_flat : LooksOfOutcomesAreFlat
 looks_of_outcomes_are_flat s log image next o above inputs fitting t votes ended reader v counted =
@@ -65,15 +104,40 @@ looks_of_outcomes_are_flat s log image next o above inputs fitting t votes ended
       | inl posted ↦
           let granted = (r.fit.sound.faithful.promises (Granted v.0 t v.1) posted).2 in
           absurd (not_two (is_logged (s.mini t)) (r.fit.sound.faithful.stands v.0 (Grant t) granted stands.1).1 reader)
-      | inr posted ↦ looks_had_their_moment s log image o (events_of s (opened_at s log image next) inputs) r.run v.0 t v.1
-          (subst (λ (w : World). In (Looked v.0 t v.1) w.posted) r.world posted)
+      | inr posted ↦
+          let at = in_split (Looked v.0 t v.1) _ posted in
+          let it = looks_had_their_moment s log image o (events_of s (opened_at s log image next) inputs) r.run v.0 t v.1 at.0 at.1 (ap (λ (w : World). w.posted) (sym r.world) ∙ at.2) in
+          (it.0, it.1, it.2, it.4, it.5)
     ]
+
+pub looks_have_their_moment : LooksHaveTheirMoment
+looks_have_their_moment s log image next o above inputs fitting k m t bytes is =
+    let r = steps_reach s (opened_at s log image next) inputs (opening_fit s log image next o above) fitting in
+    let at = numbered_split _ k (Looked m t bytes) is in
+    let it = looks_had_their_moment s log image o (events_of s (opened_at s log image next) inputs) r.run m t bytes at.0 at.1 (ap (λ (w : World). w.posted) (sym r.world) ∙ at.2) in
+    (it.0, it.1, it.2, ap (λ (ps : List Message). length ps) it.3 ∙ at.3, it.4, it.5)
+
+pub failures_had_their_reason : FailuresHadTheirReason
+failures_had_their_reason s log image next o above inputs fitting t m why ended =
+    let r = steps_reach s (opened_at s log image next) inputs (opening_fit s log image next o above) fitting in
+    let stands = r.fit.outcomes (Failed t m why) ended in
+    refusals_had_their_reason s log image o (events_of s (opened_at s log image next) inputs) r.run m t why
+    (subst (λ (w : World). In (Refused m t why) w.posted) r.world stands.4)
+
+-- ---- numbers
+
+pub begun_is_below : BegunIsBelow
+begun_is_below s log image next o above inputs fitting t begun =
+    ((steps_reach s (opened_at s log image next) inputs (opening_fit s log image next o above) fitting).fit.coordinator (s.coord t)).next t begun refl
+
+pub live_are_named_by_all : LiveAreNamedByAll
+live_are_named_by_all = live_named
 
 pub reactions_are_allowed : ReactionsAreAllowed
 reactions_are_allowed s log image next o above inputs fitting m held message posted =
     let st = steps s (opened_at s log image next) inputs in
     let r = steps_reach s (opened_at s log image next) inputs (opening_fit s log image next o above) fitting in
-    (handle_good s st.world r.fit.sound m held message (r.fit.sound.faithful.promises message posted)).0
+    (handle_good s st.world r.fit.sound m held message posted (r.fit.sound.faithful.promises message posted)).0
 
 -- an input only adds outcomes
 outcomes_after : (s : Setting) (st : State) (input : Input) (o : Outcome) → In o st.outcomes → In o (step s st input).outcomes
@@ -98,7 +162,7 @@ outcomes_after s st (ToCoordinator k) o h = hears (numbered st.world.posted k)
     hears None = h
     hears (Some (Granted m t bytes)) = in_back o _ st.outcomes h
     hears (Some (Looked m t bytes)) = in_back o _ st.outcomes h
-    hears (Some (Refused m t)) = in_back o _ st.outcomes h
+    hears (Some (Refused m t why)) = in_back o _ st.outcomes h
     hears (Some (Done m t)) = h
     hears (Some (Prepare t)) = h
     hears (Some (DecideCommit t)) = h
@@ -140,7 +204,8 @@ above_is_not_passed s log m t = (
     only : ¬ IsPassed s log m t → (x : Standing) → StandsSo s (own m log) t x → x ≡ Above
     only above Above is = refl
     only above (Same vote) is = absurd (above (record { by = t; cast = cast_log m vote t log is; same = refl; above = omega arith }))
-    only above Below is = absurd (above (let less = is.3 in record { by = is.0; cast = cast_log m is.1.0 is.0 log is.1.1; same = is.2; above = omega (arith, less) }))
+    only above (Below floor) is =
+        absurd (above (let below = below_log s log m t floor is in let less = below.above in record { by = floor; cast = below.cast; same = below.same; above = omega (arith, less) }))
 
 pub floors_are_greatest : FloorsAreGreatest
 floors_are_greatest s rs c = (
@@ -153,7 +218,7 @@ floors_are_greatest s rs c = (
 pub records_are_kept : RecordsAreKept
 records_are_kept s log m t = (
   λ h. let k = kept_is s log m t h in (k.0, k.1, kept_remembered s log m t h),
-  λ h. elim (cases_Bool (is_kept s (own m log) t)) [
+  λ h. elim (cases_Bool (is_kept s m (own m log) t)) [
     | inl is ↦ is
     | inr gone ↦ absurd (h.2 (not_kept s log m t gone h.0 h.1))
   ],
@@ -166,7 +231,7 @@ added : Event → List Entry
 added (Begins t) = []
 added (Grants m t) = At m (Grant t) ∷ []
 added (Completes m t) = At m (Grant t) ∷ []
-added (Refuses m t) = At m (Refuse t) ∷ []
+added (Refuses m t why) = At m (Refuse t why) ∷ []
 added (Commits m t) = At m (Commit t) ∷ []
 added (Aborts m t) = At m (Abort t) ∷ []
 added (Forgets m t) = At m (Forget t) ∷ []
@@ -177,7 +242,7 @@ unfolding added
 added_log s w (Begins t) = refl
 added_log s w (Grants m t) = refl
 added_log s w (Completes m t) = refl
-added_log s w (Refuses m t) = refl
+added_log s w (Refuses m t why) = refl
 added_log s w (Commits m t) = refl
 added_log s w (Aborts m t) = refl
 added_log s w (Forgets m t) = refl
@@ -189,7 +254,7 @@ plain_replayed s m n a r image plain = go (n == m)
   where
     one : (q : Record) → ((t : ℕ) → ¬ (q ≡ Commit t)) → image a ≡ replayed s m (q ∷ []) image a
     one (Grant t) h = refl
-    one (Refuse t) h = refl
+    one (Refuse t why) h = refl
     one (Commit t) h = absurd (h t refl)
     one (Abort t) h = refl
     one (Forget t) h = refl
@@ -203,7 +268,7 @@ unfolding added
 added_image s w (Begins t) m a = refl
 added_image s w (Grants n t) m a = plain_replayed s m n a (Grant t) (w.image m) (λ u e. absurd cc)
 added_image s w (Completes n t) m a = plain_replayed s m n a (Grant t) (w.image m) (λ u e. absurd cc)
-added_image s w (Refuses n t) m a = plain_replayed s m n a (Refuse t) (w.image m) (λ u e. absurd cc)
+added_image s w (Refuses n t why) m a = plain_replayed s m n a (Refuse t why) (w.image m) (λ u e. absurd cc)
 added_image s w (Commits n t) m a = elim (cases_eq n m) [
   | inl here ↦ ap (λ (b : Bool). cond b (with_writes s t w.image m) (w.image m) a) (eq-eqb m n (sym here))
       ∙ sym (ap (λ (b : Bool). replayed s m (cond b (Commit t ∷ []) []) (w.image m) a) (eq-eqb n m here))
@@ -226,7 +291,7 @@ replayed_append : (s : Setting) (m : ℕ) (xs ys : List Record) (image : ℕ →
 replayed_append s m [] ys image a = refl
 replayed_append s m (Commit t ∷ xs) ys image a = ap (unwrap_or ((s.mini t).writes m a)) (replayed_append s m xs ys image a)
 replayed_append s m (Grant t ∷ xs) ys image a = replayed_append s m xs ys image a
-replayed_append s m (Refuse t ∷ xs) ys image a = replayed_append s m xs ys image a
+replayed_append s m (Refuse t why ∷ xs) ys image a = replayed_append s m xs ys image a
 replayed_append s m (Abort t ∷ xs) ys image a = replayed_append s m xs ys image a
 replayed_append s m (Forget t ∷ xs) ys image a = replayed_append s m xs ys image a
 
@@ -235,7 +300,7 @@ replayed_same : (s : Setting) (m : ℕ) (xs : List Record) (f g : ℕ → ℕ) (
 replayed_same s m [] f g a same = same
 replayed_same s m (Commit t ∷ xs) f g a same = ap (unwrap_or ((s.mini t).writes m a)) (replayed_same s m xs f g a same)
 replayed_same s m (Grant t ∷ xs) f g a same = replayed_same s m xs f g a same
-replayed_same s m (Refuse t ∷ xs) f g a same = replayed_same s m xs f g a same
+replayed_same s m (Refuse t why ∷ xs) f g a same = replayed_same s m xs f g a same
 replayed_same s m (Abort t ∷ xs) f g a same = replayed_same s m xs f g a same
 replayed_same s m (Forget t ∷ xs) f g a same = replayed_same s m xs f g a same
 

@@ -6,5 +6,8 @@ pub mod CoordinatorLemmas
 pub mod ManagerLemmas
 pub mod MachineLemmas
 pub mod LawLemmas
-pub mod RuleLemmas
+pub mod PrepareLemmas
 pub mod HeadlineLemmas
+pub mod RowLemmas
+pub mod PointLemmas
+pub mod AlikeLemmas

@@ -13,8 +13,9 @@ use Rattle.tx_actors.specs.Manager.{Work, Deed, learn, resend_manager}
 use Rattle.tx_actors.specs.Machine.{appending, reacts, State, numbered, Input, Begin, ToNode, ToStoppingNode, ToCoordinator, ToManager, GiveUp, Resend, BootCoordinator, BootNode, Sweep, ResendManager, BootManager, Move, idle, acts, works, to_node, to_coordinator, to_manager, move, step, steps, events_of, opened_at, IsAboveKnown}
 use Rattle.tx_actors.specs.Laws.{IsFitting, OutcomeStands}
 use Rattle.tx_actors.proofs.NodeLemmas.{run_append, after_append, reacts_run, handle_good}
+use Rattle.tx_actors.proofs.TestLemmas.{some_is}
 use Rattle.tx_actors.proofs.FitLemmas.{IsLater, later_all, begun_all, posts_begin, appending_begins, MayPost, posts_run, FitsRunning, FitsCoordinator, FitsWork, finishing_later, coordinator_later, work_later, outcome_later, IsFine, IsFineDeed}
-use Rattle.tx_actors.proofs.CoordinatorLemmas.{some_is, give_up_fine, new_boot_fine, resend_fine, hear_granted_fine, hear_refused_fine, hear_done_fine}
+use Rattle.tx_actors.proofs.CoordinatorLemmas.{give_up_fine, new_boot_fine, resend_fine, hear_granted_fine, hear_refused_fine, hear_done_fine}
 use Rattle.tx_actors.proofs.ManagerLemmas.{learn_fine, resend_manager_fine}
 
 pub record IsFit (s : Setting) (st : State) : Type 0 where
@@ -31,7 +32,7 @@ abbrev pub MovesWell : Setting → State → Move → Type 0
 MovesWell s st m = IsRun s st.world m.events × IsFit s (moved s st m)
 
 -- a numbered message was posted
-numbered-In : (posted : List Message) (k : ℕ) (p : Message) → numbered posted k ≡ Some p → In p posted
+pub numbered-In : (posted : List Message) (k : ℕ) (p : Message) → numbered posted k ≡ Some p → In p posted
 numbered-In [] k p h = absurd cc
 numbered-In (q ∷ posted) k p h = go (length posted == k) (numbered-In posted k p) h
   where
@@ -69,12 +70,12 @@ module _ (s : Setting) (st : State) (fit : IsFit s st) where
       rest true k = k
       rest false k = posts_begin s (after_all s st.world (appending s st.world m a.appends)) a.posts u k
 
-  to_node_well : (m : ℕ) (held stops : Bool) (o : Option Message) → ((p : Message) → o ≡ Some p → Promises s st.world p) → MovesWell s st (to_node s st m held stops o)
+  to_node_well : (m : ℕ) (held : Option ℕ) (stops : Bool) (o : Option Message) → ((p : Message) → o ≡ Some p → In p st.world.posted) → MovesWell s st (to_node s st m held stops o)
   to_node_well m held stops None all = still
   to_node_well m held stops (Some p) all =
       let a = handle s m held (view st.world m) p in
       idle_well (reacts s st.world m stops a)
-      (reacts_run s st.world fit.sound m a stops (handle_good s st.world fit.sound m held p (all p refl)))
+      (reacts_run s st.world fit.sound m a stops (handle_good s st.world fit.sound m held p (all p refl) (fit.sound.faithful.promises p (all p refl))))
       (react_begins m stops a)
 
   -- a coordinator
@@ -111,8 +112,8 @@ module _ (s : Setting) (st : State) (fit : IsFit s st) where
       acts_well c _ (hear_granted_fine s st.world fit.sound.faithful c (st.coordinator c) (fit.coordinator c) m t bytes (st.coordinator c).running refl (inl posted))
   hears_well (Looked m t bytes) posted promise = let c = s.coord t in
       acts_well c _ (hear_granted_fine s st.world fit.sound.faithful c (st.coordinator c) (fit.coordinator c) m t bytes (st.coordinator c).running refl (inr posted))
-  hears_well (Refused m t) posted promise = let c = s.coord t in
-      acts_well c _ (hear_refused_fine s st.world fit.sound.faithful c (st.coordinator c) (fit.coordinator c) m t (st.coordinator c).running refl promise)
+  hears_well (Refused m t why) posted promise = let c = s.coord t in
+      acts_well c _ (hear_refused_fine s st.world fit.sound.faithful c (st.coordinator c) (fit.coordinator c) m t why (st.coordinator c).running refl posted)
   hears_well (Done m t) posted promise = let c = s.coord t in
       acts_well c _ (hear_done_fine s st.world fit.sound.faithful c (st.coordinator c) (fit.coordinator c) m t promise)
   hears_well (Prepare t) posted promise = still
@@ -147,7 +148,7 @@ module _ (s : Setting) (st : State) (fit : IsFit s st) where
 
   to_manager_well : (o : Option Message) → ((p : Message) → o ≡ Some p → Promises s st.world p) → MovesWell s st (to_manager s st o)
   to_manager_well None all = still
-  to_manager_well (Some p) all = works_well (learn s st.manager p) (learn_fine s st.world st.manager p fit.manager (all p refl))
+  to_manager_well (Some p) all = works_well (learn st.manager p) (learn_fine s st.world st.manager p fit.manager (all p refl))
 
   -- an identifier begins
   begin_well : (t : ℕ) → (st.coordinator (s.coord t)).next ≤ t → IsMini (s.mini t)
@@ -212,9 +213,9 @@ module _ (s : Setting) (st : State) (fit : IsFit s st) where
   pub move_well : (input : Input) → IsFitting s (step s st input).world → MovesWell s st (move s st input)
   move_well (Begin t) fitting = begins_well t (st.coordinator (s.coord t)).running refl (λ h live. fitting t h live)
   move_well (ToNode k m held) fitting =
-      to_node_well m held false (numbered st.world.posted k) (λ p is. fit.sound.faithful.promises p (numbered-In st.world.posted k p is))
+      to_node_well m held false (numbered st.world.posted k) (λ p is. numbered-In st.world.posted k p is)
   move_well (ToStoppingNode k m held) fitting =
-      to_node_well m held true (numbered st.world.posted k) (λ p is. fit.sound.faithful.promises p (numbered-In st.world.posted k p is))
+      to_node_well m held true (numbered st.world.posted k) (λ p is. numbered-In st.world.posted k p is)
   move_well (ToCoordinator k) fitting = to_coordinator_well (numbered st.world.posted k) (λ p is. numbered-In st.world.posted k p is)
   move_well (ToManager k) fitting =
       to_manager_well (numbered st.world.posted k) (λ p is. fit.sound.faithful.promises p (numbered-In st.world.posted k p is))
@@ -224,7 +225,7 @@ module _ (s : Setting) (st : State) (fit : IsFit s st) where
   move_well (BootNode m) fitting = still
   move_well Sweep fitting = works_well (record { now = st.manager; posts = ListKept ∷ [] }) (record {
     now = fit.manager;
-    posts = λ p h. elim h [ inl e ↦ subst (MayPost s st.world) (sym e) (tt, λ v. tt) | inr none ↦ absurd none ];
+    posts = λ p h. elim h [ inl e ↦ subst (MayPost s st.world) (sym e) (tt, (tt, λ v. tt)) | inr none ↦ absurd none ];
   })
   move_well ResendManager fitting = works_well (record { now = st.manager; posts = resend_manager st.manager }) (resend_manager_fine s st.world st.manager fit.manager)
   move_well BootManager fitting = works_well (record { now = []; posts = [] }) (record { now = λ x h. absurd h; posts = λ p h. absurd h })

@@ -1,17 +1,18 @@
 -- What a memory node does is allowed by the rules.
-use Rattle.std.proofs.Common.{◌≡◌, ℕ, Bool, true, false, cond, ◌&&◌, ◌||◌, List, [], ◌∷◌, ◌++◌, map, ◌⊎◌, inl, inr, refl, sym, ap, ◌∙◌, subst, arith}
-use Rattle.std.proofs.lemmas.Bool.{and_parts, cases_Bool}
+use Rattle.std.proofs.Common.{◌≡◌, ℕ, Bool, true, false, cond, ◌&&◌, ◌||◌, List, [], ◌∷◌, ◌++◌, map, Option, Some, None, ◌⊎◌, inl, inr, refl, sym, ap, ◌∙◌, subst, arith}
+use Rattle.std.proofs.lemmas.Bool.{and_parts, or_cases, cases_Bool}
 use Rattle.tx_rules.specs.Mini.{In, has_several, is_logged, Setting, nodes_of, IsLive, IsFresh, reads_of, Matches, AreApart}
-use Rattle.tx_rules.specs.Decision.{Grant, Refuse, Commit, Abort, Forget, Entry, At, IsGranted, IsPassed, IsRefused, IsOpen, IsCommitted, IsAborted, IsThrough, IsOver}
-use Rattle.tx_rules.specs.World.{Message, Prepare, Granted, Looked, Refused, DecideCommit, DecideAbort, Done, Forgotten, ListKept, Kept, Ask, AnswerOk, AnswerAbort, World, Promises, AtPosting, MayGrant, Event, Completes, Grants, Commits, Posts, after, IsRun, after_all}
+use Rattle.tx_rules.specs.Decision.{Reason, Forced, Held, Locked, Mismatch, Grant, Refuse, Commit, Abort, Forget, Entry, At, IsGranted, IsPassed, IsRefused, IsOpen, IsCommitted, IsAborted, IsThrough, IsOver}
+use Rattle.tx_rules.specs.World.{Message, Prepare, Granted, Looked, Refused, DecideCommit, DecideAbort, Done, Forgotten, ListKept, Kept, Ask, AnswerOk, AnswerAbort, World, HasReason, IsUnlocked, Promises, AtPosting, MayGrant, Event, Completes, Grants, Commits, Posts, after, IsRun, after_all}
 use Rattle.tx_rules.proofs.GrowthLemmas.{one_record, granted_passed, own_sight}
 use Rattle.tx_rules.proofs.StoredLemmas.{complete_open}
 use Rattle.tx_rules.proofs.SoundLemmas.{IsSound}
-use Rattle.tx_actors.specs.Tests.{is_in}
-use Rattle.tx_actors.specs.Node.{own, has_grant, has_decision, cast_as, Standing, Above, Same, Below, standing, is_kept, is_undecided, kept_in, is_locked, all_match, view, Reaction, silent, answers, grants_again, refuses, grants, votes, votes_by_floor, on_prepare, on_commit, forced, on_abort, on_forget, answers_by_floor, on_ask, to_participant, handle}
+use Rattle.tx_rules.specs.Lists.{is_in}
+use Rattle.tx_actors.specs.Node.{own, has_grant, has_decision, cast_as, Standing, Above, Same, Below, standing, is_kept, is_undecided, kept_in, view, Reaction, silent, answers, RecordAgain, least_holder, first_mismatch, rule_by_items, rule_by_locks, rule_by_cut, rule_by_floor, grants_again, refuses, grants, by_rule, on_prepare, on_commit, forced, on_abort, on_forget, answers_by_floor, on_ask, to_participant, handle}
 use Rattle.tx_actors.specs.Machine.{all_granted, appending, reacts}
-use Rattle.tx_actors.proofs.TestLemmas.{not_two, or_none, is_in-In}
-use Rattle.tx_actors.proofs.RecordLemmas.{own-log, log-own, has_grant-In, In-has_grant, StandsSo, standing_is, cast_log, above_not_passed, open_is, decided_is, not_open, kept_is, not_kept, kept_in-is, not_locked, all_match-is}
+use Rattle.tx_actors.proofs.TestLemmas.{not_two, is_in-In}
+use Rattle.tx_actors.proofs.RecordLemmas.{own-log, log-own, has_grant-In, In-has_grant, StandsSo, standing_is, cast_log, above_not_passed, open_is, decided_is, not_open, kept_is, not_kept, kept_in-is, live_named, below_log}
+use Rattle.tx_actors.proofs.PrepareLemmas.{holder_is, no_holder, no_mismatch, mismatch_is}
 
 -- ---- runs
 
@@ -50,11 +51,11 @@ only_one (m ∷ []) a b h x y = elim x [
 only_one (m ∷ n ∷ ms) a b h x y = absurd cc
 
 -- what was not passed is refused by a refusal
-refused_now : (s : Setting) (log : List Entry) (m t : ℕ) → ¬ IsPassed s log m t → IsRefused s (At m (Refuse t) ∷ log) m t
-refused_now s log m t above = record {
-  passed = record { by = t; cast = inr (inl refl); same = refl; above = omega arith };
+refused_now : (s : Setting) (log : List Entry) (m t : ℕ) (why : Reason) → ¬ IsPassed s log m t → IsRefused s (At m (Refuse t why) ∷ log) m t
+refused_now s log m t why above = record {
+  passed = record { by = t; cast = inr (why, inl refl); same = refl; above = omega arith };
   never = λ h. elim h [
-    | inl e ↦ let x = one_record m m (Grant t) (Refuse t) e in cc
+    | inl e ↦ let x = one_record m m (Grant t) (Refuse t why) e in cc
     | inr before ↦ above (granted_passed s log m t before)
   ];
 }
@@ -77,12 +78,13 @@ module _ (s : Setting) (w : World) (sound : IsSound s w) (m : ℕ) where
     again_good : IsGranted w.log m t → IsGood (grants_again s m (view w m) t)
     again_good granted = says (Granted m t (reads_of s t m (w.seen t m))) (begun, fresh, granted, refl) tt
 
-    refuses_good : ¬ IsPassed s w.log m t → IsGood (refuses s m t)
-    refuses_good above = go (is_logged (s.mini t)) refl
+    refuses_good : (why : Reason) → ¬ IsPassed s w.log m t → HasReason s w m t why → IsGood (refuses s m t why)
+    refuses_good why above reason = go (is_logged (s.mini t)) refl
       where
-        go : (b : Bool) → is_logged (s.mini t) ≡ b → IsGood (cond b (record { appends = Refuse t ∷ []; posts = Refused m t ∷ [] }) (answers (Refused m t)))
-        go true is = (((begun, above), tt), (((begun, fresh, inl (refused_now s w.log m t above)), tt), tt))
-        go false is = says (Refused m t) (begun, fresh, inr (inr is)) tt
+        go : (b : Bool) → is_logged (s.mini t) ≡ b
+            → IsGood (cond b (record { appends = Refuse t why ∷ []; posts = Refused m t why ∷ [] }) (answers (Refused m t why)))
+        go true is = (((begun, above, reason), tt), (((begun, fresh, inl (inl refl, refused_now s w.log m t why above)), inl (inl refl)), tt))
+        go false is = says (Refused m t why) (begun, fresh, inr (inr is)) (inr reason)
 
     -- the grant of one participant, and its commit
     single_good : (may : MayGrant s w m t) → has_several (nodes_of s t) ≡ false
@@ -128,39 +130,48 @@ module _ (s : Setting) (w : World) (sound : IsSound s w) (m : ℕ) where
         go true is = split is (has_several (nodes_of s t)) refl
         go false is = says (Looked m t (reads_of s t m (w.image m))) (begun, fresh, participant, is) (record { unlocked = unlocked; matching = matching; now = refl })
 
-    votes_good : (held : Bool) → ¬ IsPassed s w.log m t → IsGood (votes s m held (view w m) t)
-    votes_good held above = go (held || is_locked s m (own m w.log) t) refl
-      where
-        compare : is_locked s m (own m w.log) t ≡ false → (b : Bool) → all_match ((s.mini t).wants m) (w.image m) ≡ b
-            → IsGood (cond b (grants s m (view w m) t) (refuses s m t))
-        compare clear true is = grants_good above (not_locked s w.log m t clear) (all_match-is ((s.mini t).wants m) (w.image m) is)
-        compare clear false is = refuses_good above
+    by_items_good : ¬ IsPassed s w.log m t → IsUnlocked s w m t → (o : Option ℕ) → first_mismatch ((s.mini t).wants m) (w.image m) ≡ o
+        → IsGood (by_rule s m (view w m) t (rule_by_items o))
+    by_items_good above unlocked (Some item) is = refuses_good (Mismatch item) above (unlocked, mismatch_is ((s.mini t).wants m) (w.image m) item is)
+    by_items_good above unlocked None is = grants_good above unlocked (no_mismatch ((s.mini t).wants m) (w.image m) is)
 
-        go : (b : Bool) → (held || is_locked s m (own m w.log) t) ≡ b
-            → IsGood (cond b (refuses s m t) (cond (all_match ((s.mini t).wants m) (w.image m)) (grants s m (view w m) t) (refuses s m t)))
-        go true is = refuses_good above
-        go false is = compare (or_none held (is_locked s m (own m w.log) t) is).1 (all_match ((s.mini t).wants m) (w.image m)) refl
+    by_locks_good : ¬ IsPassed s w.log m t → (o : Option ℕ) → least_holder s m (own m w.log) t ≡ o
+        → IsGood (by_rule s m (view w m) t (rule_by_locks o (first_mismatch ((s.mini t).wants m) (w.image m))))
+    by_locks_good above (Some holder) is = refuses_good (Locked holder) above (holder_is s w m t holder is)
+    by_locks_good above None is = by_items_good above (no_holder s w m t is) (first_mismatch ((s.mini t).wants m) (w.image m)) refl
 
-    by_floor_good : (held : Bool) (at_floor : Standing) → StandsSo s (own m w.log) t at_floor → IsGood (votes_by_floor s m held (view w m) t at_floor)
-    by_floor_good held Above is = votes_good held (above_not_passed s w.log m t is)
-    by_floor_good held (Same true) is = again_good (own-log m (Grant t) w.log is)
-    by_floor_good held (Same false) is =
-        says (Refused m t) (begun, fresh, inl (sound.faithful.refused m t (own-log m (Refuse t) w.log is) fresh)) tt
-    by_floor_good held Below is =
-        says (Refused m t) (begun, fresh, inr (inl (record { newer = is.0; begun = known is.0 (cast_log m is.1.0 is.0 w.log is.1.1); same = is.2; above = is.3 }))) tt
-      where
-        known : (u : ℕ) → IsGranted w.log m u ⊎ In (At m (Refuse u)) w.log → In u w.begun
-        known u h = elim h [ inl g ↦ sound.faithful.known m (Grant u) g | inr r ↦ sound.faithful.known m (Refuse u) r ]
+    by_cut_good : ¬ IsPassed s w.log m t → (held : Option ℕ)
+        → IsGood (by_rule s m (view w m) t (rule_by_cut held (least_holder s m (own m w.log) t) (first_mismatch ((s.mini t).wants m) (w.image m))))
+    by_cut_good above (Some cut) = refuses_good (Held cut) above tt
+    by_cut_good above None = by_locks_good above (least_holder s m (own m w.log) t) refl
 
-    prepare_good : (held : Bool) → IsGood (on_prepare s m held (view w m) t)
-    prepare_good held = go (is_kept s (own m w.log) t) refl
+    by_floor_good : (held : Option ℕ) (at_floor : Standing) → StandsSo s (own m w.log) t at_floor
+        → IsGood (by_rule s m (view w m) t (rule_by_floor s m held (view w m) t at_floor))
+    by_floor_good held Above is = by_cut_good (above_not_passed s w.log m t is) held
+    by_floor_good held (Same None) is = again_good (own-log m (Grant t) w.log is)
+    by_floor_good held (Same (Some why)) is =
+        let entry = own-log m (Refuse t why) w.log is in
+        says (Refused m t why) (begun, fresh, inl (entry, sound.faithful.refused m t why entry fresh)) (inl entry)
+    by_floor_good held (Below floor) is =
+        let below = below_log s w.log m t floor is in
+        says (Refused m t (Forced floor)) (begun, fresh, inr (inl below)) (inr (inl below))
+
+    prepare_good : (held : Option ℕ) → IsGood (on_prepare s m held (view w m) t)
+    prepare_good held = go (is_kept s m (own m w.log) t) refl
       where
-        go : (b : Bool) → is_kept s (own m w.log) t ≡ b
-            → IsGood (cond b (grants_again s m (view w m) t) (votes_by_floor s m held (view w m) t (standing s (own m w.log) t)))
+        go : (b : Bool) → is_kept s m (own m w.log) t ≡ b
+            → IsGood (by_rule s m (view w m) t (cond b RecordAgain (rule_by_floor s m held (view w m) t (standing s (own m w.log) t))))
         go true is = again_good (kept_is s w.log m t is).0
         go false is = by_floor_good held (standing s (own m w.log) t) (standing_is s (own m w.log) t)
 
   -- ---- decisions
+  -- a message about an identifier is for its participants; about an old one it may be for any memory node
+  abbrev IsFor : ℕ → Type 0
+  IsFor t = In m (nodes_of s t) ⊎ In t s.old
+
+  live_for : (t : ℕ) → IsFor t → IsLive s t → In m (nodes_of s t)
+  live_for t mine live = elim mine [ inl is ↦ is | inr old ↦ absurd (live old) ]
+
   -- an undecided record is of a live identifier
   open_live : (t : ℕ) → IsOpen w.log m t → IsLive s t
   open_live t o h = sound.faithful.closed m t h o
@@ -172,37 +183,37 @@ module _ (s : Setting) (w : World) (sound : IsSound s w) (m : ℕ) where
     | inr none ↦ inr (record { passed = passed; never = λ h. not_two (has_grant (own m w.log) t) (In-has_grant (own m w.log) t (log-own m (Grant t) w.log h)) none })
   ]
 
-  same_passed : (t : ℕ) (vote : Bool) → In (cast_as vote t) (own m w.log) → IsPassed s w.log m t
+  same_passed : (t : ℕ) (vote : Option Reason) → In (cast_as vote t) (own m w.log) → IsPassed s w.log m t
   same_passed t vote is = record { by = t; cast = cast_log m vote t w.log is; same = refl; above = omega arith }
 
-  below_passed : (t : ℕ) → StandsSo s (own m w.log) t Below → IsPassed s w.log m t
-  below_passed t is = let less = is.3 in record { by = is.0; cast = cast_log m is.1.0 is.0 w.log is.1.1; same = is.2; above = omega (arith, less) }
+  below_passed : (t floor : ℕ) → StandsSo s (own m w.log) t (Below floor) → IsPassed s w.log m t
+  below_passed t floor is = let below = below_log s w.log m t floor is in let less = below.above in record { by = floor; cast = below.cast; same = below.same; above = omega (arith, less) }
 
-  commit_good : (t : ℕ) → Promises s w (DecideCommit t) → In m (nodes_of s t) → IsGood (on_commit m (view w m) t)
-  commit_good t promise participant = go (is_undecided (own m w.log) t) refl
+  commit_good : (t : ℕ) → Promises s w (DecideCommit t) → IsFor t → IsGood (on_commit m (view w m) t)
+  commit_good t promise mine = go (is_undecided (own m w.log) t) refl
     where
       go : (b : Bool) → is_undecided (own m w.log) t ≡ b → IsGood (record { appends = cond b (Commit t ∷ []) []; posts = Done m t ∷ [] })
       go true is =
           let o = open_is w.log m t is in
           (((open_live t o, o, (promise.1 (open_live t o)).1), tt), (((promise.0, λ live. inl (inl (inl refl))), tt), tt))
-      go false is = (tt, (((promise.0, λ live. inl (not_open w.log m t is ((promise.1 live).1 m participant))), tt), tt))
+      go false is = (tt, (((promise.0, λ live. inl (not_open w.log m t is ((promise.1 live).1 m (live_for t mine live)))), tt), tt))
 
-  abort_good : (t : ℕ) → Promises s w (DecideAbort t) → In m (nodes_of s t) → IsGood (on_abort s m (view w m) t)
-  abort_good t promise participant = go (is_undecided (own m w.log) t) refl
+  abort_good : (t : ℕ) → Promises s w (DecideAbort t) → In (DecideAbort t) w.posted → IsFor t → IsGood (on_abort s m (view w m) t)
+  abort_good t promise posted mine = go (is_undecided (own m w.log) t) refl
     where
       aborted : (o : IsOpen w.log m t) → IsAborted s w.log t ⊎ IsOver s w.log t → IsAborted s w.log t
       aborted o h = elim h [
         | inl a ↦ a
-        | inr over ↦ elim (over m participant) [ inl d ↦ absurd (o.undecided d) | inr r ↦ absurd (r.never o.granted) ]
+        | inr over ↦ elim (over m (live_for t mine (open_live t o))) [ inl d ↦ absurd (o.undecided d) | inr r ↦ absurd (r.never o.granted) ]
       ]
 
       closed : is_undecided (own m w.log) t ≡ false → (at_floor : Standing) → StandsSo s (own m w.log) t at_floor
           → IsGood (record { appends = forced t at_floor; posts = Done m t ∷ [] })
       closed is Above at =
           let above = above_not_passed s w.log m t at in
-          (((promise.0, above), tt), (((promise.0, λ live. inr (refused_now s w.log m t above)), tt), tt))
+          (((promise.0, above, inr (refl, inr posted)), tt), (((promise.0, λ live. inr (refused_now s w.log m t (Forced t) above)), tt), tt))
       closed is (Same vote) at = (tt, (((promise.0, λ live. passed_through t is (same_passed t vote at)), tt), tt))
-      closed is Below at = (tt, (((promise.0, λ live. passed_through t is (below_passed t at)), tt), tt))
+      closed is (Below floor) at = (tt, (((promise.0, λ live. passed_through t is (below_passed t floor at)), tt), tt))
 
       go : (b : Bool) → is_undecided (own m w.log) t ≡ b → IsGood (record { appends = cond b (Abort t ∷ []) (forced t (standing s (own m w.log) t)); posts = Done m t ∷ [] })
       go true is =
@@ -210,60 +221,62 @@ module _ (s : Setting) (w : World) (sound : IsSound s w) (m : ℕ) where
           (((open_live t o, o, aborted o (promise.1 (open_live t o)).1), tt), (((promise.0, λ live. inl (inr (inl refl))), tt), tt))
       go false is = closed is (standing s (own m w.log) t) (standing_is s (own m w.log) t)
 
-  forget_good : (t : ℕ) → Promises s w (Forgotten t) → IsGood (on_forget s (view w m) t)
-  forget_good t promise = go (is_kept s (own m w.log) t && has_decision (own m w.log) t) refl
+  forget_good : (t : ℕ) → Promises s w (Forgotten t) → IsGood (on_forget s m (view w m) t)
+  forget_good t promise = go (is_kept s m (own m w.log) t && has_decision (own m w.log) t) refl
     where
-      go : (b : Bool) → (is_kept s (own m w.log) t && has_decision (own m w.log) t) ≡ b → IsGood (record { appends = cond b (Forget t ∷ []) []; posts = [] })
-      go true is = (((promise.0, λ live. (decided_is w.log m t (and_parts (is_kept s (own m w.log) t) (has_decision (own m w.log) t) is).1, promise.1 live)), tt), tt)
+      go : (b : Bool) → (is_kept s m (own m w.log) t && has_decision (own m w.log) t) ≡ b → IsGood (record { appends = cond b (Forget t ∷ []) []; posts = [] })
+      go true is = (((promise.0, λ live. (decided_is w.log m t (and_parts (is_kept s m (own m w.log) t) (has_decision (own m w.log) t) is).1, promise.1 live)), tt), tt)
       go false is = (tt, tt)
 
   -- ---- recovery
   -- passed and not kept: never granted, or every participant is through
-  passed_over : (t : ℕ) → is_kept s (own m w.log) t ≡ false → IsPassed s w.log m t → IsLive s t → has_several (nodes_of s t) ≡ true
+  passed_over : (t : ℕ) → is_kept s m (own m w.log) t ≡ false → IsPassed s w.log m t → IsLive s t → has_several (nodes_of s t) ≡ true
       → IsRefused s w.log m t ⊎ IsOver s w.log t
   passed_over t gone passed live several = elim (cases_Bool (has_grant (own m w.log) t)) [
-    | inl is ↦ inr (sound.faithful.stands m (Forget t) (not_kept s w.log m t gone (own-log m (Grant t) w.log (has_grant-In (own m w.log) t is)) several) live).1
+    | inl is ↦ inr (sound.faithful.stands m (Forget t) (not_kept s w.log m t gone (own-log m (Grant t) w.log (has_grant-In (own m w.log) t is)) (ap has_several (live_named s m t live) ∙ several)) live).1
     | inr none ↦ inl (record { passed = passed; never = λ h. not_two (has_grant (own m w.log) t) (In-has_grant (own m w.log) t (log-own m (Grant t) w.log h)) none })
   ]
 
-  ask_good : (t : ℕ) → Promises s w (Ask t) → IsGood (on_ask s m (view w m) t)
-  ask_good t promise = go (is_kept s (own m w.log) t) refl
+  ask_good : (t : ℕ) → Promises s w (Ask t) → In (Ask t) w.posted → IsGood (on_ask s m (view w m) t)
+  ask_good t promise posted = go (is_kept s m (own m w.log) t) refl
     where
-      gone : is_kept s (own m w.log) t ≡ false → (at_floor : Standing) → StandsSo s (own m w.log) t at_floor → IsGood (answers_by_floor m t at_floor)
+      gone : is_kept s m (own m w.log) t ≡ false → (at_floor : Standing) → StandsSo s (own m w.log) t at_floor → IsGood (answers_by_floor m t at_floor)
       gone is Above at =
           let above = above_not_passed s w.log m t at in
-          (((promise.0, above), tt), (((promise.0, λ live. inl (refused_now s w.log m t above)), tt), tt))
-      gone is (Same true) at = says (AnswerOk m t) (promise.0, λ live. own-log m (Grant t) w.log at) tt
-      gone is (Same false) at = says (AnswerAbort m t) (promise.0, λ live. passed_over t is (same_passed t false at) live (promise.1 live)) tt
-      gone is Below at = says (AnswerAbort m t) (promise.0, λ live. passed_over t is (below_passed t at) live (promise.1 live)) tt
+          (((promise.0, above, inr (refl, inl posted)), tt), (((promise.0, λ live. inl (refused_now s w.log m t (Forced t) above)), tt), tt))
+      gone is (Same None) at = says (AnswerOk m t) (promise.0, λ live. own-log m (Grant t) w.log at) tt
+      gone is (Same (Some why)) at = says (AnswerAbort m t) (promise.0, λ live. passed_over t is (same_passed t (Some why) at) live (promise.1 live)) tt
+      gone is (Below floor) at = says (AnswerAbort m t) (promise.0, λ live. passed_over t is (below_passed t floor at) live (promise.1 live)) tt
 
-      go : (b : Bool) → is_kept s (own m w.log) t ≡ b → IsGood (cond b (answers (AnswerOk m t)) (answers_by_floor m t (standing s (own m w.log) t)))
+      go : (b : Bool) → is_kept s m (own m w.log) t ≡ b → IsGood (cond b (answers (AnswerOk m t)) (answers_by_floor m t (standing s (own m w.log) t)))
       go true is = says (AnswerOk m t) (promise.0, λ live. (kept_is s w.log m t is).0) tt
       go false is = gone is (standing s (own m w.log) t) (standing_is s (own m w.log) t)
 
-  list_good : IsGood (answers (Kept m (kept_in s (own m w.log))))
-  list_good = says (Kept m (kept_in s (own m w.log)))
-      (λ t h. let k = kept_in-is s w.log m t h in (sound.faithful.known m (Grant t) k.0, λ live. k.1)) tt
+  list_good : IsGood (answers (Kept m (kept_in s m (own m w.log))))
+  list_good = says (Kept m (kept_in s m (own m w.log)))
+      (λ x h.
+      let k = kept_in-is s w.log m x h in
+      (sound.faithful.known m (Grant x.0) k.0, λ live. let named = live_named s m x.0 live in (sym (ap has_several named) ∙ k.1, k.2 ∙ named))) tt
 
   -- ---- all messages
-  for_participant : (t : ℕ) (a : Reaction) → (In m (nodes_of s t) → IsGood a) → IsGood (to_participant s m t a)
-  for_participant t a good = go (is_in m (nodes_of s t)) refl
+  for_participant : (t : ℕ) (a : Reaction) → (IsFor t → IsGood a) → IsGood (to_participant s m t a)
+  for_participant t a good = go (is_in m (nodes_of s t) || is_in t s.old) refl
     where
-      go : (b : Bool) → is_in m (nodes_of s t) ≡ b → IsGood (cond b a silent)
-      go true is = good (is_in-In m (nodes_of s t) is)
+      go : (b : Bool) → (is_in m (nodes_of s t) || is_in t s.old) ≡ b → IsGood (cond b a silent)
+      go true is = good (elim (or_cases (is_in m (nodes_of s t)) (is_in t s.old) is) [ inl h ↦ inl (is_in-In m (nodes_of s t) h) | inr h ↦ inr (is_in-In t s.old h) ])
       go false is = (tt, tt)
 
-  pub handle_good : (held : Bool) (p : Message) → Promises s w p → IsGood (handle s m held (view w m) p)
-  handle_good held (Prepare t) promise = for_participant t (on_prepare s m held (view w m) t) (λ is. prepare_good t promise.0 promise.1 is held)
-  handle_good held (DecideCommit t) promise = for_participant t (on_commit m (view w m) t) (commit_good t promise)
-  handle_good held (DecideAbort t) promise = for_participant t (on_abort s m (view w m) t) (abort_good t promise)
-  handle_good held (Forgotten t) promise = for_participant t (on_forget s (view w m) t) (λ is. forget_good t promise)
-  handle_good held (Ask t) promise = for_participant t (on_ask s m (view w m) t) (λ is. ask_good t promise)
-  handle_good held ListKept promise = list_good
-  handle_good held (Granted n t bytes) promise = (tt, tt)
-  handle_good held (Looked n t bytes) promise = (tt, tt)
-  handle_good held (Refused n t) promise = (tt, tt)
-  handle_good held (Done n t) promise = (tt, tt)
-  handle_good held (Kept n ts) promise = (tt, tt)
-  handle_good held (AnswerOk n t) promise = (tt, tt)
-  handle_good held (AnswerAbort n t) promise = (tt, tt)
+  pub handle_good : (held : Option ℕ) (p : Message) → In p w.posted → Promises s w p → IsGood (handle s m held (view w m) p)
+  handle_good held (Prepare t) posted promise = for_participant t (on_prepare s m held (view w m) t) (λ mine. prepare_good t promise.0 promise.1 (live_for t mine promise.1.0) held)
+  handle_good held (DecideCommit t) posted promise = for_participant t (on_commit m (view w m) t) (commit_good t promise)
+  handle_good held (DecideAbort t) posted promise = for_participant t (on_abort s m (view w m) t) (abort_good t promise posted)
+  handle_good held (Forgotten t) posted promise = for_participant t (on_forget s m (view w m) t) (λ mine. forget_good t promise)
+  handle_good held (Ask t) posted promise = for_participant t (on_ask s m (view w m) t) (λ mine. ask_good t promise posted)
+  handle_good held ListKept posted promise = list_good
+  handle_good held (Granted n t bytes) posted promise = (tt, tt)
+  handle_good held (Looked n t bytes) posted promise = (tt, tt)
+  handle_good held (Refused n t why) posted promise = (tt, tt)
+  handle_good held (Done n t) posted promise = (tt, tt)
+  handle_good held (Kept n ts) posted promise = (tt, tt)
+  handle_good held (AnswerOk n t) posted promise = (tt, tt)
+  handle_good held (AnswerAbort n t) posted promise = (tt, tt)

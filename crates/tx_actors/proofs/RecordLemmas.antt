@@ -1,12 +1,12 @@
 -- The state that records make says what the log says.
-use Rattle.std.proofs.Common.{◌≡◌, ℕ, ◌<◌, ◌≤◌, nat_lt, ◌==◌, Bool, true, false, not, cond, ◌&&◌, List, [], ◌∷◌, filter, Option, Some, None, ◌⊎◌, inl, inr, refl, sym, ap, ap₂, ◌∙◌, subst, arith}
-use Rattle.std.proofs.lemmas.Bool.{eqb-true, eqb-false, eq-eqb, ltb-true, ltb-false, or_cases, and_parts, and_cases, cases_Bool, not-true, not-false}
-use Rattle.tx_rules.specs.Mini.{In, has_several, Setting, nodes_of, cells_of, AreApart}
-use Rattle.tx_rules.specs.Decision.{Record, Grant, Refuse, Commit, Abort, Forget, Entry, At, IsGranted, IsCast, IsPassed, IsDecided, IsOpen}
+use Rattle.std.proofs.Common.{◌≡◌, ℕ, ◌<◌, ◌≤◌, nat_lt, ◌==◌, Bool, true, false, not, cond, ◌&&◌, List, [], ◌∷◌, filter, take, Option, Some, None, ◌⊎◌, inl, inr, refl, sym, ap, ap₂, ◌∙◌, subst, arith}
+use Rattle.std.proofs.lemmas.Bool.{eqb-true, eqb-false, eq-eqb, ltb-true, ltb-false, or_cases, and_parts, and_cases, cases_Bool, not-true, not-false, false_from_ne_true}
+use Rattle.tx_rules.specs.Mini.{In, has_several, Setting, nodes_of, participants_at, IsLive}
+use Rattle.tx_rules.specs.Decision.{Reason, Record, Grant, Refuse, Commit, Abort, Forget, Entry, At, IsGranted, IsCast, IsPassed, IsBelow, IsDecided, IsOpen}
 use Rattle.tx_rules.proofs.GrowthLemmas.{one_node, one_record}
-use Rattle.tx_actors.specs.Tests.{overlap}
-use Rattle.tx_actors.specs.Node.{own, has_grant, has_decision, has_forget, cast_as, raised, floor_of, Standing, Above, Same, Below, to_floor, standing, is_kept, is_undecided, granted_in, sorted, kept_in, any_lock, is_locked, all_match}
-use Rattle.tx_actors.proofs.TestLemmas.{or_left, or_right, or_none, not_two, In-filter, In-take, In-sorted, overlap-none}
+use Rattle.tx_rules.specs.Lists.{is_in}
+use Rattle.tx_actors.specs.Node.{own, has_grant, has_decision, has_forget, cast_as, raised, floor_of, Standing, Above, Same, Below, to_floor, standing, is_kept, is_undecided, granted_in, sorted, kept_in}
+use Rattle.tx_actors.proofs.TestLemmas.{or_left, or_right, not_two, In-filter, In-map, In-take, In-sorted, is_in-In}
 
 -- ---- one memory node's records
 
@@ -31,7 +31,7 @@ log-own m r (At n q ∷ log) h = go (n == m) refl (log-own m r log) h
 pub has_grant-In : (rs : List Record) (t : ℕ) → has_grant rs t ≡ true → In (Grant t) rs
 has_grant-In [] t h = absurd cc
 has_grant-In (Grant u ∷ rs) t h = elim (or_cases (u == t) (has_grant rs t) h) [ inl e ↦ inl (ap Grant (sym (eqb-true u t e))) | inr r ↦ inr (has_grant-In rs t r) ]
-has_grant-In (Refuse u ∷ rs) t h = inr (has_grant-In rs t h)
+has_grant-In (Refuse u why ∷ rs) t h = inr (has_grant-In rs t h)
 has_grant-In (Commit u ∷ rs) t h = inr (has_grant-In rs t h)
 has_grant-In (Abort u ∷ rs) t h = inr (has_grant-In rs t h)
 has_grant-In (Forget u ∷ rs) t h = inr (has_grant-In rs t h)
@@ -45,7 +45,7 @@ In-has_grant (Grant u ∷ rs) t h = elim h [
   where
     one : (x y : ℕ) → Grant x ≡ Grant y → x ≡ y
     one x y e = cc
-In-has_grant (Refuse u ∷ rs) t h = elim h [ inl e ↦ absurd cc | inr r ↦ In-has_grant rs t r ]
+In-has_grant (Refuse u why ∷ rs) t h = elim h [ inl e ↦ absurd cc | inr r ↦ In-has_grant rs t r ]
 In-has_grant (Commit u ∷ rs) t h = elim h [ inl e ↦ absurd cc | inr r ↦ In-has_grant rs t r ]
 In-has_grant (Abort u ∷ rs) t h = elim h [ inl e ↦ absurd cc | inr r ↦ In-has_grant rs t r ]
 In-has_grant (Forget u ∷ rs) t h = elim h [ inl e ↦ absurd cc | inr r ↦ In-has_grant rs t r ]
@@ -54,7 +54,7 @@ pub has_forget-In : (rs : List Record) (t : ℕ) → has_forget rs t ≡ true �
 has_forget-In [] t h = absurd cc
 has_forget-In (Forget u ∷ rs) t h = elim (or_cases (u == t) (has_forget rs t) h) [ inl e ↦ inl (ap Forget (sym (eqb-true u t e))) | inr r ↦ inr (has_forget-In rs t r) ]
 has_forget-In (Grant u ∷ rs) t h = inr (has_forget-In rs t h)
-has_forget-In (Refuse u ∷ rs) t h = inr (has_forget-In rs t h)
+has_forget-In (Refuse u why ∷ rs) t h = inr (has_forget-In rs t h)
 has_forget-In (Commit u ∷ rs) t h = inr (has_forget-In rs t h)
 has_forget-In (Abort u ∷ rs) t h = inr (has_forget-In rs t h)
 
@@ -68,7 +68,7 @@ In-has_forget (Forget u ∷ rs) t h = elim h [
     one : (x y : ℕ) → Forget x ≡ Forget y → x ≡ y
     one x y e = cc
 In-has_forget (Grant u ∷ rs) t h = elim h [ inl e ↦ absurd cc | inr r ↦ In-has_forget rs t r ]
-In-has_forget (Refuse u ∷ rs) t h = elim h [ inl e ↦ absurd cc | inr r ↦ In-has_forget rs t r ]
+In-has_forget (Refuse u why ∷ rs) t h = elim h [ inl e ↦ absurd cc | inr r ↦ In-has_forget rs t r ]
 In-has_forget (Commit u ∷ rs) t h = elim h [ inl e ↦ absurd cc | inr r ↦ In-has_forget rs t r ]
 In-has_forget (Abort u ∷ rs) t h = elim h [ inl e ↦ absurd cc | inr r ↦ In-has_forget rs t r ]
 
@@ -90,7 +90,7 @@ has_decision-In (Abort u ∷ rs) t h = elim (or_cases (u == t) (has_decision rs 
   | inr r ↦ decided_later (Abort u) rs t (has_decision-In rs t r)
 ]
 has_decision-In (Grant u ∷ rs) t h = decided_later (Grant u) rs t (has_decision-In rs t h)
-has_decision-In (Refuse u ∷ rs) t h = decided_later (Refuse u) rs t (has_decision-In rs t h)
+has_decision-In (Refuse u why ∷ rs) t h = decided_later (Refuse u why) rs t (has_decision-In rs t h)
 has_decision-In (Forget u ∷ rs) t h = decided_later (Forget u) rs t (has_decision-In rs t h)
 
 one_commit : (x y : ℕ) → Commit x ≡ Commit y → x ≡ y
@@ -114,35 +114,35 @@ In-has_decision (Abort u ∷ rs) t d = elim d [
   | inr (inr h) ↦ or_right (u == t) (has_decision rs t) (In-has_decision rs t (inr h))
 ]
 In-has_decision (Grant u ∷ rs) t d = elim d [ inl (inl e) ↦ absurd cc | inl (inr h) ↦ In-has_decision rs t (inl h) | inr (inl e) ↦ absurd cc | inr (inr h) ↦ In-has_decision rs t (inr h) ]
-In-has_decision (Refuse u ∷ rs) t d = elim d [ inl (inl e) ↦ absurd cc | inl (inr h) ↦ In-has_decision rs t (inl h) | inr (inl e) ↦ absurd cc | inr (inr h) ↦ In-has_decision rs t (inr h) ]
+In-has_decision (Refuse u why ∷ rs) t d = elim d [ inl (inl e) ↦ absurd cc | inl (inr h) ↦ In-has_decision rs t (inl h) | inr (inl e) ↦ absurd cc | inr (inr h) ↦ In-has_decision rs t (inr h) ]
 In-has_decision (Forget u ∷ rs) t d = elim d [ inl (inl e) ↦ absurd cc | inl (inr h) ↦ In-has_decision rs t (inl h) | inr (inl e) ↦ absurd cc | inr (inr h) ↦ In-has_decision rs t (inr h) ]
 
 -- ---- the floor
 
 -- some vote on the identifier is in the records
 abbrev pub CastIn : List Record → ℕ → Type 0
-CastIn rs t = (vote : Bool) × In (cast_as vote t) rs
+CastIn rs t = (vote : Option Reason) × In (cast_as vote t) rs
 
-pub record IsTop (s : Setting) (rs : List Record) (c t : ℕ) (vote : Bool) : Type 0 where
+pub record IsTop (s : Setting) (rs : List Record) (c t : ℕ) (vote : Option Reason) : Type 0 where
   pub cast : In (cast_as vote t) rs
   pub same : s.coord t ≡ c
   pub greatest : (u : ℕ) → CastIn rs u → s.coord u ≡ c → u ≤ t
 
-abbrev pub IsFloor : Setting → List Record → ℕ → Option (ℕ × Bool) → Type 0
+abbrev pub IsFloor : Setting → List Record → ℕ → Option (ℕ × Option Reason) → Type 0
 IsFloor s rs c None = (u : ℕ) → CastIn rs u → ¬ (s.coord u ≡ c)
 IsFloor s rs c (Some floor) = IsTop s rs c floor.0 floor.1
 
-one_cast : (v x : Bool) (t u : ℕ) → cast_as v t ≡ cast_as x u → t ≡ u
-one_cast true true t u e = cc
-one_cast true false t u e = absurd cc
-one_cast false true t u e = absurd cc
-one_cast false false t u e = cc
+one_cast : (v x : Option Reason) (t u : ℕ) → cast_as v t ≡ cast_as x u → t ≡ u
+one_cast None None t u e = cc
+one_cast None (Some other) t u e = absurd cc
+one_cast (Some why) None t u e = absurd cc
+one_cast (Some why) (Some other) t u e = cc
 
 -- a vote with a new one in front is the new one or was there
-cast_cases : (rs : List Record) (t : ℕ) (vote : Bool) (u : ℕ) → CastIn (cast_as vote t ∷ rs) u → (u ≡ t) ⊎ CastIn rs u
+cast_cases : (rs : List Record) (t : ℕ) (vote : Option Reason) (u : ℕ) → CastIn (cast_as vote t ∷ rs) u → (u ≡ t) ⊎ CastIn rs u
 cast_cases rs t vote u h = elim h.1 [ inl e ↦ inl (one_cast h.0 vote u t e) | inr rest ↦ inr (h.0, rest) ]
 
-floor_other : (s : Setting) (rs : List Record) (c t : ℕ) (vote : Bool) (o : Option (ℕ × Bool)) → ¬ (s.coord t ≡ c) → IsFloor s rs c o → IsFloor s (cast_as vote t ∷ rs) c o
+floor_other : (s : Setting) (rs : List Record) (c t : ℕ) (vote : Option Reason) (o : Option (ℕ × Option Reason)) → ¬ (s.coord t ≡ c) → IsFloor s rs c o → IsFloor s (cast_as vote t ∷ rs) c o
 floor_other s rs c t vote None other h = λ u cast same. elim (cast_cases rs t vote u cast) [ inl e ↦ other (ap s.coord (sym e) ∙ same) | inr rest ↦ h u rest same ]
 floor_other s rs c t vote (Some floor) other h = record {
   cast = inr h.cast;
@@ -150,7 +150,7 @@ floor_other s rs c t vote (Some floor) other h = record {
   greatest = λ u cast same. elim (cast_cases rs t vote u cast) [ inl e ↦ absurd (other (ap s.coord (sym e) ∙ same)) | inr rest ↦ h.greatest u rest same ];
 }
 
-floor_raised : (s : Setting) (rs : List Record) (c t : ℕ) (vote : Bool) (o : Option (ℕ × Bool)) → s.coord t ≡ c → IsFloor s rs c o
+floor_raised : (s : Setting) (rs : List Record) (c t : ℕ) (vote : Option Reason) (o : Option (ℕ × Option Reason)) → s.coord t ≡ c → IsFloor s rs c o
     → IsFloor s (cast_as vote t ∷ rs) c (raised t vote o)
 floor_raised s rs c t vote None here h = record {
   cast = inl refl;
@@ -177,7 +177,7 @@ floor_raised s rs c t vote (Some floor) here h = go (nat_lt floor.0 t) refl
       ];
     }
 
-floor_cast : (s : Setting) (rs : List Record) (c t : ℕ) (vote : Bool) (o : Option (ℕ × Bool)) → IsFloor s rs c o
+floor_cast : (s : Setting) (rs : List Record) (c t : ℕ) (vote : Option Reason) (o : Option (ℕ × Option Reason)) → IsFloor s rs c o
     → IsFloor s (cast_as vote t ∷ rs) c (cond (s.coord t == c) (raised t vote o) o)
 floor_cast s rs c t vote o h = go (s.coord t == c) refl
   where
@@ -186,7 +186,7 @@ floor_cast s rs c t vote o h = go (s.coord t == c) refl
     go false is = floor_other s rs c t vote o (eqb-false (s.coord t) c is) h
 
 -- a record that is no vote leaves the floor
-floor_skip : (s : Setting) (r : Record) (rs : List Record) (c : ℕ) (o : Option (ℕ × Bool)) → ((v : Bool) (u : ℕ) → ¬ (cast_as v u ≡ r)) → IsFloor s rs c o → IsFloor s (r ∷ rs) c o
+floor_skip : (s : Setting) (r : Record) (rs : List Record) (c : ℕ) (o : Option (ℕ × Option Reason)) → ((v : Option Reason) (u : ℕ) → ¬ (cast_as v u ≡ r)) → IsFloor s rs c o → IsFloor s (r ∷ rs) c o
 floor_skip s r rs c None plain h = λ u cast same. elim cast.1 [ inl e ↦ plain cast.0 u e | inr rest ↦ h u (cast.0, rest) same ]
 floor_skip s r rs c (Some floor) plain h = record {
   cast = inr h.cast;
@@ -194,22 +194,22 @@ floor_skip s r rs c (Some floor) plain h = record {
   greatest = λ u cast same. elim cast.1 [ inl e ↦ absurd (plain cast.0 u e) | inr rest ↦ h.greatest u (cast.0, rest) same ];
 }
 
-not_commit : (t : ℕ) (v : Bool) (u : ℕ) → ¬ (cast_as v u ≡ Commit t)
-not_commit t true u e = cc
-not_commit t false u e = cc
+not_commit : (t : ℕ) (v : Option Reason) (u : ℕ) → ¬ (cast_as v u ≡ Commit t)
+not_commit t None u e = cc
+not_commit t (Some why) u e = cc
 
-not_abort : (t : ℕ) (v : Bool) (u : ℕ) → ¬ (cast_as v u ≡ Abort t)
-not_abort t true u e = cc
-not_abort t false u e = cc
+not_abort : (t : ℕ) (v : Option Reason) (u : ℕ) → ¬ (cast_as v u ≡ Abort t)
+not_abort t None u e = cc
+not_abort t (Some why) u e = cc
 
-not_forget : (t : ℕ) (v : Bool) (u : ℕ) → ¬ (cast_as v u ≡ Forget t)
-not_forget t true u e = cc
-not_forget t false u e = cc
+not_forget : (t : ℕ) (v : Option Reason) (u : ℕ) → ¬ (cast_as v u ≡ Forget t)
+not_forget t None u e = cc
+not_forget t (Some why) u e = cc
 
 pub floor_is : (s : Setting) (rs : List Record) (c : ℕ) → IsFloor s rs c (floor_of s rs c)
 floor_is s [] c = λ u cast same. cast.1
-floor_is s (Grant t ∷ rs) c = floor_cast s rs c t true (floor_of s rs c) (floor_is s rs c)
-floor_is s (Refuse t ∷ rs) c = floor_cast s rs c t false (floor_of s rs c) (floor_is s rs c)
+floor_is s (Grant t ∷ rs) c = floor_cast s rs c t None (floor_of s rs c) (floor_is s rs c)
+floor_is s (Refuse t why ∷ rs) c = floor_cast s rs c t (Some why) (floor_of s rs c) (floor_is s rs c)
 floor_is s (Commit t ∷ rs) c = floor_skip s (Commit t) rs c (floor_of s rs c) (not_commit t) (floor_is s rs c)
 floor_is s (Abort t ∷ rs) c = floor_skip s (Abort t) rs c (floor_of s rs c) (not_abort t) (floor_is s rs c)
 floor_is s (Forget t ∷ rs) c = floor_skip s (Forget t) rs c (floor_of s rs c) (not_forget t) (floor_is s rs c)
@@ -218,17 +218,17 @@ floor_is s (Forget t ∷ rs) c = floor_skip s (Forget t) rs c (floor_of s rs c) 
 abbrev pub StandsSo : Setting → List Record → ℕ → Standing → Type 0
 StandsSo s rs t Above = (u : ℕ) → CastIn rs u → s.coord u ≡ s.coord t → u < t
 StandsSo s rs t (Same vote) = In (cast_as vote t) rs
-StandsSo s rs t Below = (u : ℕ) × CastIn rs u × (s.coord u ≡ s.coord t) × (t < u)
+StandsSo s rs t (Below floor) = CastIn rs floor × (s.coord floor ≡ s.coord t) × (t < floor)
 
-to_floor_is : (s : Setting) (rs : List Record) (t : ℕ) (o : Option (ℕ × Bool)) → IsFloor s rs (s.coord t) o → StandsSo s rs t (to_floor t o)
+to_floor_is : (s : Setting) (rs : List Record) (t : ℕ) (o : Option (ℕ × Option Reason)) → IsFloor s rs (s.coord t) o → StandsSo s rs t (to_floor t o)
 to_floor_is s rs t None h = λ u cast same. absurd (h u cast same)
 to_floor_is s rs t (Some floor) h = go (nat_lt floor.0 t) refl
   where
-    at_or_below : (b : Bool) → (floor.0 == t) ≡ b → t ≤ floor.0 → StandsSo s rs t (cond b (Same floor.1) Below)
+    at_or_below : (b : Bool) → (floor.0 == t) ≡ b → t ≤ floor.0 → StandsSo s rs t (cond b (Same floor.1) (Below floor.0))
     at_or_below true is above = subst (λ x. In (cast_as floor.1 x) rs) (eqb-true floor.0 t is) h.cast
-    at_or_below false is above = let differ : ¬ (floor.0 ≡ t) = eqb-false floor.0 t is in (floor.0, (floor.1, h.cast), h.same, omega (arith, above, differ))
+    at_or_below false is above = let differ : ¬ (floor.0 ≡ t) = eqb-false floor.0 t is in ((floor.1, h.cast), h.same, omega (arith, above, differ))
 
-    go : (b : Bool) → nat_lt floor.0 t ≡ b → StandsSo s rs t (cond b Above (cond (floor.0 == t) (Same floor.1) Below))
+    go : (b : Bool) → nat_lt floor.0 t ≡ b → StandsSo s rs t (cond b Above (cond (floor.0 == t) (Same floor.1) (Below floor.0)))
     go true is = λ u cast same. omega (arith, h.greatest u cast same, ltb-true floor.0 t is)
     go false is = at_or_below (floor.0 == t) refl (ltb-false floor.0 t is)
 
@@ -237,12 +237,16 @@ standing_is s rs t = to_floor_is s rs t (floor_of s rs (s.coord t)) (floor_is s 
 
 -- ---- what the state says of the log
 
-pub cast_log : (m : ℕ) (vote : Bool) (t : ℕ) (log : List Entry) → In (cast_as vote t) (own m log) → IsCast log m t
-cast_log m true t log h = inl (own-log m (Grant t) log h)
-cast_log m false t log h = inr (own-log m (Refuse t) log h)
+pub cast_log : (m : ℕ) (vote : Option Reason) (t : ℕ) (log : List Entry) → In (cast_as vote t) (own m log) → IsCast log m t
+cast_log m None t log h = inl (own-log m (Grant t) log h)
+cast_log m (Some why) t log h = inr (why, own-log m (Refuse t why) log h)
 
 pub log_cast : (m t : ℕ) (log : List Entry) → IsCast log m t → CastIn (own m log) t
-log_cast m t log h = elim h [ inl g ↦ (true, log-own m (Grant t) log g) | inr r ↦ (false, log-own m (Refuse t) log r) ]
+log_cast m t log h = elim h [ inl g ↦ (None, log-own m (Grant t) log g) | inr r ↦ (Some r.0, log-own m (Refuse t r.0) log r.1) ]
+
+-- below a floor it is below it in the log
+pub below_log : (s : Setting) (log : List Entry) (m t floor : ℕ) → StandsSo s (own m log) t (Below floor) → IsBelow s log m t floor
+below_log s log m t floor h = record { cast = cast_log m h.0.0 floor log h.0.1; same = h.1; above = h.2 }
 
 -- above the floor an identifier is not passed
 pub above_not_passed : (s : Setting) (log : List Entry) (m t : ℕ) → StandsSo s (own m log) t Above → ¬ IsPassed s log m t
@@ -276,33 +280,42 @@ is_open log m t o = elim (cases_Bool (is_undecided (own m log) t)) [
   | inr none ↦ absurd (o.undecided (not_open log m t none o.granted))
 ]
 
-pub kept_is : (s : Setting) (log : List Entry) (m t : ℕ) → is_kept s (own m log) t ≡ true → IsGranted log m t × (has_several (nodes_of s t) ≡ true)
+pub kept_is : (s : Setting) (log : List Entry) (m t : ℕ) → is_kept s m (own m log) t ≡ true → IsGranted log m t × (has_several (participants_at s m t) ≡ true)
 kept_is s log m t h =
-    let both = and_parts (has_grant (own m log) t) (has_several (nodes_of s t) && not (has_forget (own m log) t)) h in
-    (own-log m (Grant t) log (has_grant-In (own m log) t both.0), (and_parts (has_several (nodes_of s t)) (not (has_forget (own m log) t)) both.1).0)
+    let both = and_parts (has_grant (own m log) t) (has_several (participants_at s m t) && not (has_forget (own m log) t)) h in
+    (own-log m (Grant t) log (has_grant-In (own m log) t both.0), (and_parts (has_several (participants_at s m t)) (not (has_forget (own m log) t)) both.1).0)
 
 -- granted with several participants, and not kept: forgotten
-pub not_kept : (s : Setting) (log : List Entry) (m t : ℕ) → is_kept s (own m log) t ≡ false → IsGranted log m t → has_several (nodes_of s t) ≡ true → In (At m (Forget t)) log
+pub not_kept : (s : Setting) (log : List Entry) (m t : ℕ) → is_kept s m (own m log) t ≡ false → IsGranted log m t
+    → has_several (participants_at s m t) ≡ true → In (At m (Forget t)) log
 not_kept s log m t h granted several =
-    elim (and_cases (has_grant (own m log) t) (has_several (nodes_of s t) && not (has_forget (own m log) t)) h) [
+    elim (and_cases (has_grant (own m log) t) (has_several (participants_at s m t) && not (has_forget (own m log) t)) h) [
       | inl none ↦ absurd (not_two (has_grant (own m log) t) (In-has_grant (own m log) t (log-own m (Grant t) log granted)) none)
-      | inr rest ↦ elim (and_cases (has_several (nodes_of s t)) (not (has_forget (own m log) t)) rest) [
-        | inl single ↦ absurd (not_two (has_several (nodes_of s t)) several single)
+      | inr rest ↦ elim (and_cases (has_several (participants_at s m t)) (not (has_forget (own m log) t)) rest) [
+        | inl single ↦ absurd (not_two (has_several (participants_at s m t)) several single)
         | inr some ↦ own-log m (Forget t) log (has_forget-In (own m log) t (not-false (has_forget (own m log) t) some))
       ]
     ]
 
 -- a kept record is not forgotten
-pub kept_remembered : (s : Setting) (log : List Entry) (m t : ℕ) → is_kept s (own m log) t ≡ true → ¬ In (At m (Forget t)) log
+pub kept_remembered : (s : Setting) (log : List Entry) (m t : ℕ) → is_kept s m (own m log) t ≡ true → ¬ In (At m (Forget t)) log
 kept_remembered s log m t h forgotten =
-    let both = and_parts (has_grant (own m log) t) (has_several (nodes_of s t) && not (has_forget (own m log) t)) h in
-    let none = not-true (has_forget (own m log) t) (and_parts (has_several (nodes_of s t)) (not (has_forget (own m log) t)) both.1).1 in
+    let both = and_parts (has_grant (own m log) t) (has_several (participants_at s m t) && not (has_forget (own m log) t)) h in
+    let none = not-true (has_forget (own m log) t) (and_parts (has_several (participants_at s m t)) (not (has_forget (own m log) t)) both.1).1 in
     not_two (has_forget (own m log) t) (In-has_forget (own m log) t (log-own m (Forget t) log forgotten)) none
 
-pub kept_in-is : (s : Setting) (log : List Entry) (m t : ℕ) → In t (kept_in s (own m log)) → IsGranted log m t × (has_several (nodes_of s t) ≡ true)
-kept_in-is s log m t h =
-    let chosen = filter (is_kept s (own m log)) (granted_in (own m log)) in
-    kept_is s log m t (In-filter (is_kept s (own m log)) t (granted_in (own m log)) (In-sorted t chosen (In-take 64 t (sorted chosen) h))).1
+-- what an answer to `list` names is kept, with the participants that the record names
+pub kept_in-is : (s : Setting) (log : List Entry) (m : ℕ) (x : ℕ × List ℕ) → In x (kept_in s m (own m log))
+    → IsGranted log m x.0 × (has_several (participants_at s m x.0) ≡ true) × (x.1 ≡ participants_at s m x.0)
+kept_in-is s log m x h =
+    let chosen = filter (is_kept s m (own m log)) (granted_in (own m log)) in
+    let it = In-map (λ (t : ℕ). (t, participants_at s m t)) x (take 64 (sorted chosen)) h in
+    let kept = kept_is s log m it.0 (In-filter (is_kept s m (own m log)) it.0 (granted_in (own m log)) (In-sorted it.0 chosen (In-take 64 it.0 (sorted chosen) it.1))).1 in
+    subst (λ (y : ℕ × List ℕ). IsGranted log m y.0 × (has_several (participants_at s m y.0) ≡ true) × (y.1 ≡ participants_at s m y.0)) (sym it.2) (kept.0, kept.1, refl)
+
+-- of a live identifier each record names the participants that it has
+pub live_named : (s : Setting) (m t : ℕ) → IsLive s t → participants_at s m t ≡ nodes_of s t
+live_named s m t live = ap (λ b. cond b (s.noted m t) (nodes_of s t)) (false_from_ne_true (is_in t s.old) (λ h. live (is_in-In t s.old h)))
 
 pub In-granted_in : (rs : List Record) (t : ℕ) → In (Grant t) rs → In t (granted_in rs)
 In-granted_in [] t h = absurd h
@@ -310,33 +323,7 @@ In-granted_in (Grant u ∷ rs) t h = elim h [ inl e ↦ inl (one t u e) | inr r 
   where
     one : (x y : ℕ) → Grant x ≡ Grant y → x ≡ y
     one x y e = cc
-In-granted_in (Refuse u ∷ rs) t h = elim h [ inl e ↦ absurd cc | inr r ↦ In-granted_in rs t r ]
+In-granted_in (Refuse u why ∷ rs) t h = elim h [ inl e ↦ absurd cc | inr r ↦ In-granted_in rs t r ]
 In-granted_in (Commit u ∷ rs) t h = elim h [ inl e ↦ absurd cc | inr r ↦ In-granted_in rs t r ]
 In-granted_in (Abort u ∷ rs) t h = elim h [ inl e ↦ absurd cc | inr r ↦ In-granted_in rs t r ]
 In-granted_in (Forget u ∷ rs) t h = elim h [ inl e ↦ absurd cc | inr r ↦ In-granted_in rs t r ]
-
-any_lock-none : (s : Setting) (m t : ℕ) (rs : List Record) (us : List ℕ) → any_lock s m rs t us ≡ false → (u : ℕ) → In u us → is_undecided rs u ≡ true → AreApart s m t u
-any_lock-none s m t rs [] h u is undecided = absurd is
-any_lock-none s m t rs (x ∷ us) h u is undecided =
-    let both = or_none (is_undecided rs x && overlap (cells_of s t m) (cells_of s x m)) (any_lock s m rs t us) h in
-    elim is [
-      | inl e ↦ elim (and_cases (is_undecided rs x) (overlap (cells_of s t m) (cells_of s x m)) both.0) [
-        | inl decided ↦ absurd (not_two (is_undecided rs x) (subst (λ k. is_undecided rs k ≡ true) e undecided) decided)
-        | inr clear ↦ subst (AreApart s m t) (sym e) (overlap-none (cells_of s t m) (cells_of s x m) clear)
-      ]
-      | inr rest ↦ any_lock-none s m t rs us both.1 u rest undecided
-    ]
-
--- where the test finds no lock, none is in the way
-pub not_locked : (s : Setting) (log : List Entry) (m t : ℕ) → is_locked s m (own m log) t ≡ false → (u : ℕ) → IsOpen log m u → AreApart s m t u
-not_locked s log m t h u o =
-    any_lock-none s m t (own m log) (granted_in (own m log)) h u (In-granted_in (own m log) u (log-own m (Grant u) log o.granted)) (is_open log m u o)
-
-pub all_match-is : (wants : List (ℕ × ℕ)) (image : ℕ → ℕ) → all_match wants image ≡ true → (want : ℕ × ℕ) → In want wants → image want.0 ≡ want.1
-all_match-is [] image h want is = absurd is
-all_match-is (w ∷ wants) image h want is =
-    let both = and_parts (image w.0 == w.1) (all_match wants image) h in
-    elim is [
-      | inl e ↦ subst (λ (x : ℕ × ℕ). image x.0 ≡ x.1) (sym e) (eqb-true (image w.0) w.1 both.0)
-      | inr rest ↦ all_match-is wants image both.1 want rest
-    ]

@@ -1,13 +1,14 @@
 -- A coordinator of minitransactions: it runs one at a time.
 use Rattle.std.specs.Prelude.{ℕ, ◌+◌, ◌-◌, nat_le, ◌==◌, Bool, true, false, not, cond, ◌&&◌, List, [], ◌∷◌, ◌++◌, map, filter, drop, length, Option, Some, None}
 use Rattle.tx_rules.specs.Mini.{has_several, Setting, nodes_of}
+use Rattle.tx_rules.specs.Decision.{Reason}
 use Rattle.tx_rules.specs.World.{Message, Prepare, DecideCommit, DecideAbort, Forgotten}
-use Rattle.tx_actors.specs.Tests.{is_in, all_in}
+use Rattle.tx_rules.specs.Lists.{is_in, all_in}
 
--- the identifier that runs, with the Granted votes that were counted: whose, and the bytes that were read
+-- the identifier that runs, with the Granted votes that were counted: whose, and the bytes of each read item
 pub record Running : Type 0 where
   pub id : ℕ
-  pub votes : List (ℕ × List ℕ)
+  pub votes : List (ℕ × List (List ℕ))
 
 -- a decided identifier, with the memory nodes that have sent `done`
 pub record Finishing : Type 0 where
@@ -21,10 +22,10 @@ pub record Coordinator : Type 0 where
   pub running : Option Running
   pub finishing : List Finishing
 
--- how a minitransaction ends: committed with the counted votes, or refused
+-- how a minitransaction ends: committed with the counted votes, or refused by a memory node, and why
 pub data Outcome : Type 0 where
-  Committed : ℕ → List (ℕ × List ℕ) → Outcome
-  Failed : ℕ → Outcome
+  Committed : ℕ → List (ℕ × List (List ℕ)) → Outcome
+  Failed : ℕ → ℕ → Reason → Outcome
 
 -- what a coordinator does: its state then, what it posts in this order, and what ends
 pub record Act : Type 0 where
@@ -57,7 +58,7 @@ ended s c t commits outcome =
     (record { now = record c { running = None }; posts = []; ends = outcome ∷ [] })
 
 -- a Granted vote is counted: with those of all participants the outcome is committed
-abbrev pub counted : Setting → Coordinator → Running → ℕ × List ℕ → Act
+abbrev pub counted : Setting → Coordinator → Running → ℕ × List (List ℕ) → Act
 counted s c r vote =
     cond (all_in (nodes_of s r.id) (map (λ v. v.0) (vote ∷ r.votes)))
     (ended s c r.id true (Committed r.id (vote ∷ r.votes)))
@@ -68,14 +69,14 @@ abbrev pub takes : Setting → Running → ℕ → ℕ → Bool
 takes s r m t = (r.id == t) && (is_in m (nodes_of s r.id) && not (is_in m (map (λ v. v.0) r.votes)))
 
 -- a Granted vote is heard
-abbrev pub hear_granted : Setting → Coordinator → ℕ → ℕ → List ℕ → Option Running → Act
+abbrev pub hear_granted : Setting → Coordinator → ℕ → ℕ → List (List ℕ) → Option Running → Act
 hear_granted s c m t bytes None = stays c
 hear_granted s c m t bytes (Some r) = cond (takes s r m t) (counted s c r (m, bytes)) (stays c)
 
 -- another vote is heard: the outcome is that vote
-abbrev pub hear_refused : Setting → Coordinator → ℕ → ℕ → Option Running → Act
-hear_refused s c m t None = stays c
-hear_refused s c m t (Some r) = cond (takes s r m t) (ended s c r.id false (Failed r.id)) (stays c)
+abbrev pub hear_refused : Setting → Coordinator → ℕ → ℕ → Reason → Option Running → Act
+hear_refused s c m t why None = stays c
+hear_refused s c m t why (Some r) = cond (takes s r m t) (ended s c r.id false (Failed r.id m why)) (stays c)
 
 -- `done` of a memory node is noted, and where all participants have sent it the identifier is forgotten everywhere
 abbrev pub noted : ℕ → ℕ → Finishing → Finishing
@@ -112,7 +113,8 @@ abbrev pub prepares : Option Running → List Message
 prepares None = []
 prepares (Some r) = Prepare r.id ∷ []
 
--- what a coordinator posts again: the `prepare` of the running identifier, and each decision, oldest first
+-- what a coordinator posts again: the `prepare` of the running identifier, and each decision, oldest first, which is
+-- the ascending order, since a coordinator begins ascending identifiers
 abbrev pub resend : Coordinator → Act
 resend c = record (stays c) { posts = prepares c.running ++ map (λ f. decide f.commits f.id) c.finishing }
 

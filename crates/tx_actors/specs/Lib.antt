@@ -1,6 +1,4 @@
-pub mod Tests
 pub mod Node
-pub mod Rules
 pub mod Coordinator
 pub mod Manager
 pub mod Machine
@@ -8,3 +6,5 @@ pub mod Laws
 pub mod Numbers
 pub mod Sample
 pub mod Headline
+pub mod Rows
+pub mod Cases

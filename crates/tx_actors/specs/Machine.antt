@@ -17,7 +17,7 @@ all_granted log t (m ∷ ms) = has_grant (own m log) t && all_granted log t ms
 -- the event in which a record is appended: the grant of the last participant makes the point
 abbrev pub event_of : Setting → World → ℕ → Record → Event
 event_of s w m (Grant t) = cond (all_granted (At m (Grant t) ∷ w.log) t (nodes_of s t)) (Completes m t) (Grants m t)
-event_of s w m (Refuse t) = Refuses m t
+event_of s w m (Refuse t why) = Refuses m t why
 event_of s w m (Commit t) = Commits m t
 event_of s w m (Abort t) = Aborts m t
 event_of s w m (Forget t) = Forgets m t
@@ -50,10 +50,10 @@ numbered (p ∷ ps) k = cond (length ps == k) (Some p) (numbered ps k)
 pub data Input : Type 0 where
   -- the coordinator of an identifier begins it
   Begin : ℕ → Input
-  -- a message is delivered to a memory node, which holds a cut or not
-  ToNode : ℕ → ℕ → Bool → Input
+  -- a message is delivered to a memory node, which holds this cut or none
+  ToNode : ℕ → ℕ → Option ℕ → Input
   -- the same, but the memory node stops when its records are durable; where it stops before that, nothing happens
-  ToStoppingNode : ℕ → ℕ → Bool → Input
+  ToStoppingNode : ℕ → ℕ → Option ℕ → Input
   -- a vote or a `done` is delivered to the coordinator of its identifier
   ToCoordinator : ℕ → Input
   -- a message is delivered to the manager
@@ -98,7 +98,7 @@ abbrev pub works : State → Deed → Move
 works st deed = record (idle st) { events = map Posts deed.posts; manager = deed.now }
 
 -- a memory node handles a posted message by what it has, and may stop when its records are durable
-abbrev pub to_node : Setting → State → ℕ → Bool → Bool → Option Message → Move
+abbrev pub to_node : Setting → State → ℕ → Option ℕ → Bool → Option Message → Move
 to_node s st m held stops None = idle st
 to_node s st m held stops (Some p) = node_moves st (reacts s st.world m stops (handle s m held (view st.world m) p))
 
@@ -108,15 +108,15 @@ to_coordinator s st (Some (Granted m t bytes)) =
     acts st (s.coord t) [] (hear_granted s (st.coordinator (s.coord t)) m t bytes (st.coordinator (s.coord t)).running)
 to_coordinator s st (Some (Looked m t bytes)) =
     acts st (s.coord t) [] (hear_granted s (st.coordinator (s.coord t)) m t bytes (st.coordinator (s.coord t)).running)
-to_coordinator s st (Some (Refused m t)) =
-    acts st (s.coord t) [] (hear_refused s (st.coordinator (s.coord t)) m t (st.coordinator (s.coord t)).running)
+to_coordinator s st (Some (Refused m t why)) =
+    acts st (s.coord t) [] (hear_refused s (st.coordinator (s.coord t)) m t why (st.coordinator (s.coord t)).running)
 to_coordinator s st (Some (Done m t)) = acts st (s.coord t) [] (hear_done s (st.coordinator (s.coord t)) m t)
 to_coordinator s st message = idle st
 
 -- the manager learns of a posted message
 abbrev pub to_manager : Setting → State → Option Message → Move
 to_manager s st None = idle st
-to_manager s st (Some p) = works st (learn s st.manager p)
+to_manager s st (Some p) = works st (learn st.manager p)
 
 -- a coordinator begins an identifier where it may
 abbrev pub begins : Setting → State → ℕ → Coordinator → Move

@@ -1,6 +1,6 @@
 -- A run as an example: a coordinator crashes, a participant stops when its entry is durable, and a sweep finishes
 -- what they left.
-use Rattle.std.specs.Prelude.{◌≡◌, ◌*◌, ◌/◌, ◌==◌, true, false, cond, List, [], ◌∷◌, Some, None}
+use Rattle.std.specs.Prelude.{◌≡◌, ◌*◌, ◌/◌, ◌==◌, true, cond, List, [], ◌∷◌, Some, None}
 use Rattle.tx_rules.specs.Mini.{Mini, Setting}
 use Rattle.tx_rules.specs.Decision.{Grant, Commit, Forget, At}
 use Rattle.tx_rules.specs.World.{DecideCommit, DecideAbort}
@@ -20,22 +20,22 @@ sample_mini =
 
 -- a hundred identifiers for each coordinator, and a memory of zeros
 abbrev pub sample_setting : Setting
-sample_setting = record { coord = λ t. t / 100; mini = λ t. sample_mini; old = []; found = []; early = []; start = λ m a. 0 }
+sample_setting = record { coord = λ t. t / 100; mini = λ t. sample_mini; old = []; found = []; early = []; noted = λ m t. []; start = λ m a. 0 }
 
 -- what happens
 abbrev pub sample_inputs : List Input
 sample_inputs =
     -- coordinator 0 begins identifier 1, memory node 0 grants it, and memory node 1 stops when its grant is durable
-    Begin 1 ∷ ToNode 0 0 false ∷ ToStoppingNode 0 1 false
+    Begin 1 ∷ ToNode 0 0 None ∷ ToStoppingNode 0 1 None
     -- both crash and start; nothing knows of the identifier but the logs
     ∷ BootNode 1 ∷ BootCoordinator 0
     -- a sweep of memory node 0 finds it: the manager asks both, decides, and has it forgotten
-    ∷ Sweep ∷ ToNode 2 0 false ∷ ToManager 3
-    ∷ ToNode 4 0 false ∷ ToNode 4 1 false ∷ ToManager 5 ∷ ToManager 6
-    ∷ ToNode 7 0 false ∷ ToNode 7 1 false ∷ ToManager 8 ∷ ToManager 9
-    ∷ ToNode 10 0 false ∷ ToNode 10 1 false
+    ∷ Sweep ∷ ToNode 2 0 None ∷ ToManager 3
+    ∷ ToNode 4 0 None ∷ ToNode 4 1 None ∷ ToManager 5 ∷ ToManager 6
+    ∷ ToNode 7 0 None ∷ ToNode 7 1 None ∷ ToManager 8 ∷ ToManager 9
+    ∷ ToNode 10 0 None ∷ ToNode 10 1 None
     -- the first message is delivered once more
-    ∷ ToNode 0 1 false ∷ []
+    ∷ ToNode 0 1 None ∷ []
 
 -- where it leads, from a formatted cluster
 abbrev pub sample_state : State
@@ -54,8 +54,8 @@ pub record SampleEndsWell : Type 0 where
 -- abort, and posts a decision that disagrees with the one before. Every participant is through, so nothing changes
 abbrev pub late_inputs : List Input
 late_inputs =
-    Begin 2 ∷ ToNode 12 0 false ∷ ToNode 12 1 false
-    ∷ ToManager 3 ∷ ToNode 15 0 false ∷ ToManager 16 ∷ ToNode 17 0 false ∷ ToNode 17 1 false ∷ []
+    Begin 2 ∷ ToNode 12 0 None ∷ ToNode 12 1 None
+    ∷ ToManager 3 ∷ ToNode 15 0 None ∷ ToManager 16 ∷ ToNode 17 0 None ∷ ToNode 17 1 None ∷ []
 
 -- where that leads
 abbrev pub late_state : State

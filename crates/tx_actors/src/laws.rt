@@ -1,9 +1,10 @@
 //! Laws of the actors of the transaction protocol.
 ghost use Rattle.tx_actors.specs.Headline.{FormattedClustersAreSerial};
-ghost use Rattle.tx_actors.specs.Laws.{StatesAreRuns, OutcomesStand, OutcomesStay, FailedNeverCommits, CommittedReadsAreFlat, LooksOfOutcomesAreFlat, ReactionsAreAllowed, UndecidedIsOpen, AboveIsNotPassed, FloorsAreGreatest, RecordsAreKept, ImagesAreReplayed};
-ghost use Rattle.tx_actors.specs.Rules.{PrepareFollowsRules};
+ghost use Rattle.tx_actors.specs.Laws.{StatesAreRuns, BegunIsBelow, OnePointAnInput, OutcomesStand, OutcomesStay, FailedNeverCommits, FailuresHadTheirReason, LooksHaveTheirMoment, LiveAreNamedByAll, CommittedReadsAreFlat, LooksOfOutcomesAreFlat, ReactionsAreAllowed, UndecidedIsOpen, AboveIsNotPassed, FloorsAreGreatest, RecordsAreKept, ImagesAreReplayed, AppendingMakes, OthersChangeNothing, NumbersStay, StepsJoin};
 ghost use Rattle.tx_actors.specs.Numbers.{IdentifiersAreOrdered, IdentifiersTellTheirCoordinator};
 ghost use Rattle.tx_actors.specs.Sample.{SampleEndsWell, MessagesMayDisagree};
+ghost use Rattle.tx_actors.specs.Rows.{TwoPhases, Orphan, Lone};
+ghost use Rattle.tx_actors.specs.Cases.{CoordinatorFinishes, CoordinatorRepeats, ManagerFinishes, LimitsAreKept};
 
 /// Whatever happens to a formatted cluster, its decisions agree, and it holds the flat memory of its points.
 pub fn formatted_clusters_are_serial()
@@ -43,11 +44,6 @@ pub fn looks_of_outcomes_are_flat()
 /// What a memory node appends when any posted message reaches it, it may append by the rules.
 pub fn reactions_are_allowed()
     ensures { ReactionsAreAllowed }
-{}
-
-/// A memory node does with a `prepare` what the first rule that fits does.
-pub fn prepare_follows_rules()
-    ensures { PrepareFollowsRules }
 {}
 
 /// A memory node takes a record for undecided exactly where it holds locks.
@@ -93,4 +89,84 @@ pub fn sample_ends_well()
 /// A run in which both decisions on one identifier are posted, after every participant is through with it.
 pub fn messages_may_disagree()
     ensures { MessagesMayDisagree }
+{}
+
+/// What was begun is below the least identifier that its coordinator may begin next.
+pub fn begun_is_below()
+    ensures { BegunIsBelow }
+{}
+
+/// One input makes one point at most.
+pub fn one_point_an_input()
+    ensures { OnePointAnInput }
+{}
+
+/// Why a minitransaction was refused held when the vote was cast.
+pub fn failures_had_their_reason()
+    ensures { FailuresHadTheirReason }
+{}
+
+/// A posted Granted vote without an entry has the bytes of the flat memory just before it was posted itself.
+pub fn looks_have_their_moment()
+    ensures { LooksHaveTheirMoment }
+{}
+
+/// Of a live identifier each record names the participants that it has.
+pub fn live_are_named_by_all()
+    ensures { LiveAreNamedByAll }
+{}
+
+/// A memory node has what its records make of what it had.
+pub fn appending_makes()
+    ensures { AppendingMakes }
+{}
+
+/// What happens elsewhere changes nothing of what a memory node has.
+pub fn others_change_nothing()
+    ensures { OthersChangeNothing }
+{}
+
+/// Two phases: one identifier is locked out by another, and forced where its `prepare` comes late.
+pub fn two_phases()
+    ensures { TwoPhases }
+{}
+
+/// A sweep finishes what a coordinator left behind when it crashed.
+pub fn orphan()
+    ensures { Orphan }
+{}
+
+/// One participant: a look, a grant that is repeated, a mismatch, and a vote below the floor.
+pub fn lone()
+    ensures { Lone }
+{}
+
+/// A coordinator finishes what it decided.
+pub fn coordinator_finishes()
+    ensures { CoordinatorFinishes }
+{}
+
+/// It posts again, gives up and crashes.
+pub fn coordinator_repeats()
+    ensures { CoordinatorRepeats }
+{}
+
+/// The manager finishes what it finds.
+pub fn manager_finishes()
+    ensures { ManagerFinishes }
+{}
+
+/// 32 identifiers are finishing at most, 64 at work, and 64 named in an answer to `list`.
+pub fn limits_are_kept()
+    ensures { LimitsAreKept }
+{}
+
+/// A message keeps its number when more are posted.
+pub fn numbers_stay()
+    ensures { NumbersStay }
+{}
+
+/// Inputs behind inputs lead where both lead one after another.
+pub fn steps_join()
+    ensures { StepsJoin }
 {}

@@ -3,12 +3,14 @@ use Rattle.std.proofs.Common.{◌≡◌, ℕ, zero, suc, ◌+◌, ◌≤◌, ◌
 use Rattle.std.proofs.lemmas.Bool.{eqb-true, eq-eqb, leb-true, le-leb, ltb-false, and_parts, or_cases}
 use Rattle.tx_rules.specs.Mini.{In, Memory, Setting, flat}
 use Rattle.tx_rules.specs.Decision.{Record, Grant, Entry, IsOpen}
-use Rattle.tx_actors.specs.Tests.{all_in}
+use Rattle.tx_rules.specs.Lists.{all_in}
 use Rattle.tx_actors.specs.Node.{own, is_undecided, granted_in}
 use Rattle.tx_actors.proofs.TestLemmas.{or_left, or_right, or_none, not_two, all_in-In}
 use Rattle.tx_actors.proofs.RecordLemmas.{In-granted_in, log-own, is_open}
 use Rattle.tx_cuts.specs.Cut.{CutMessage, Hold, HeldOk, HeldLocked, HeldPast, Release, Drop, Read, Piece, PieceNone, StillHeld, Copy, Cuts, IsCutPassed, IsMade, part, CutPromises, CutEvent, Does, Holds, Raises, Releases, Loses, Makes, Sends, MayCut, after_cut, IsCutRun, after_cuts}
-use Rattle.tx_cuts.specs.Backup.{cut_passed, any_undecided, is_of, on_hold, on_hold_stopping, on_release, on_drop, piece_bytes, on_read, on_list, Phase, Holding, Reading, Backup, Ending, BackedUp, Ended, CutAct, keeps, fails, reads_on, hear_held, hear_piece, hear_cut, hears_cut, gives_up, posts_again, resends, images_in}
+use Rattle.tx_cuts.specs.Holds.{cut_passed, any_undecided, is_of, on_hold, on_hold_stopping, on_release, on_drop, piece_bytes, on_read, on_list}
+use Rattle.tx_cuts.specs.Backup.{Phase, Holding, Reading, Backup, Ending, BackedUp, Ended, CutAct, keeps, fails, reads_on, hear_held, hear_piece, running_hears, hears, gives_up, posts_again, resends}
+use Rattle.tx_cuts.specs.Whole.{images_in}
 use Rattle.tx_cuts.proofs.CutLemmas.{IsCutSound, part_same}
 
 -- ---- events that neither touch the transactions nor make a cut
@@ -393,7 +395,7 @@ module _ (s : Setting) (size : ℕ) (ms : List ℕ) where
           go true is = fine (eqb-true b.cut c is)
           go false is = same_fits
 
-      hear_cut_fits : (message : CutMessage) → In message k.sent → FitsAct s size ms k next (hear_cut size ms b message)
+      hear_cut_fits : (message : CutMessage) → In message k.sent → FitsAct s size ms k next (running_hears size ms b message)
       hear_cut_fits (HeldOk m c) sent = of_cut c (λ x. hear_held ms m x b b.phase) (λ same.
           subst (λ x. FitsAct s size ms k next (hear_held ms m x b b.phase)) same
           (held_fits m b.phase fits.phase (subst (λ x. In (HeldOk m x) k.sent) (sym same) sent)))
@@ -447,7 +449,7 @@ module _ (s : Setting) (size : ℕ) (ms : List ℕ) where
     none_fits = keeps_fits None (λ b e. absurd cc)
 
     pub hears_fits : (o : Option Backup) → ((b : Backup) → o ≡ Some b → FitsBackup s size ms k next b) → (message : CutMessage) → In message k.sent
-        → FitsAct s size ms k next (hears_cut size ms o message)
+        → FitsAct s size ms k next (hears size ms o message)
     hears_fits (Some b) fits message sent = hear_cut_fits b (fits b refl) message sent
     hears_fits None fits (StillHeld m c) sent =
         record { run = (tt, tt); world = refl; grown = λ x e. e; below = below; backup = λ b e. absurd cc; ends = λ e x. absurd x }

@@ -3,9 +3,10 @@ use Rattle.std.proofs.Common.{◌≡◌, ℕ, zero, suc, ◌+◌, ◌==◌, Bool
 use Rattle.std.proofs.lemmas.Bool.{eqb-true, ne_eqb, cases_Bool}
 use Rattle.tx_rules.specs.Mini.{In, Memory, Setting, flat, with_writes}
 use Rattle.tx_rules.specs.Decision.{Record, Grant, Refuse, Commit, Abort, Forget, Entry, At, IsGranted, IsOpen}
-use Rattle.tx_rules.specs.World.{World, Event, Begins, Grants, Completes, Refuses, Commits, Aborts, Forgets, Posts, May, after, after_all}
+use Rattle.tx_rules.specs.World.{World, Event, Begins, Grants, Completes, Refuses, Commits, Aborts, Forgets, Posts, May, after}
 use Rattle.tx_rules.specs.Opening.{IsOpening}
 use Rattle.tx_rules.proofs.GrowthLemmas.{one_node, one_record}
+use Rattle.tx_rules.proofs.LawLemmas.{runs_only_add}
 use Rattle.tx_rules.proofs.SoundLemmas.{IsSound, sound_after, sound_opening}
 use Rattle.tx_cuts.specs.Cut.{CutMessage, Hold, HeldOk, HeldLocked, HeldPast, Release, Drop, Read, Piece, PieceNone, StillHeld, Copy, Cuts, opened_cuts, IsCutPassed, IsHolding, IsMade, part, CutPromises, CutEvent, Does, Holds, Raises, Releases, Loses, Makes, Sends, IsClear, MayCut, with_copy, after_cut, IsCutRun, after_cuts}
 
@@ -25,7 +26,7 @@ open_before s k e m t holding clear o = record { granted = granted e clear o.gra
     granted (Begins u) free h = h
     granted (Grants n u) free h = here n u free h
     granted (Completes n u) free h = here n u free h
-    granted (Refuses n u) free h = not_grant (Refuse u) n (λ x e. absurd cc) h
+    granted (Refuses n u why) free h = not_grant (Refuse u why) n (λ x e. absurd cc) h
     granted (Commits n u) free h = not_grant (Commit u) n (λ x e. absurd cc) h
     granted (Aborts n u) free h = not_grant (Abort u) n (λ x e. absurd cc) h
     granted (Forgets n u) free h = not_grant (Forget u) n (λ x e. absurd cc) h
@@ -39,7 +40,7 @@ open_before s k e m t holding clear o = record { granted = granted e clear o.gra
     decided (Begins u) d = d
     decided (Grants n u) d = later d (λ h. inr h) (λ h. inr h)
     decided (Completes n u) d = later d (λ h. inr h) (λ h. inr h)
-    decided (Refuses n u) d = later d (λ h. inr h) (λ h. inr h)
+    decided (Refuses n u why) d = later d (λ h. inr h) (λ h. inr h)
     decided (Commits n u) d = later d (λ h. inr h) (λ h. inr h)
     decided (Aborts n u) d = later d (λ h. inr h) (λ h. inr h)
     decided (Forgets n u) d = later d (λ h. inr h) (λ h. inr h)
@@ -50,30 +51,12 @@ image_stays : (s : Setting) (w : World) (e : Event) (m : ℕ) → May s w e → 
 image_stays s w (Begins t) m may none = refl
 image_stays s w (Grants n t) m may none = refl
 image_stays s w (Completes n t) m may none = refl
-image_stays s w (Refuses n t) m may none = refl
+image_stays s w (Refuses n t why) m may none = refl
 image_stays s w (Commits n t) m may none =
     ap (λ (b : Bool). cond b (with_writes s t w.image m) (w.image m)) (ne_eqb m n (λ same. none t (subst (λ x. IsOpen w.log x t) (sym same) may.1)))
 image_stays s w (Aborts n t) m may none = refl
 image_stays s w (Forgets n t) m may none = refl
 image_stays s w (Posts p) m may none = refl
-
--- points are only added in front
-points_after : (s : Setting) (w : World) (e : Event) → (new : List ℕ) × ((after s w e).points ≡ new ++ w.points)
-points_after s w (Begins t) = ([], refl)
-points_after s w (Grants m t) = ([], refl)
-points_after s w (Completes m t) = (t ∷ [], refl)
-points_after s w (Refuses m t) = ([], refl)
-points_after s w (Commits m t) = ([], refl)
-points_after s w (Aborts m t) = ([], refl)
-points_after s w (Forgets m t) = ([], refl)
-points_after s w (Posts p) = ([], refl)
-
-pub points_all : (s : Setting) (w : World) (events : List Event) → (new : List ℕ) × ((after_all s w events).points ≡ new ++ w.points)
-points_all s w [] = ([], refl)
-points_all s w (e ∷ events) =
-    let rest = points_all s (after s w e) events in
-    let first = points_after s w e in
-    (rest.0 ++ first.0, rest.1 ∙ ap (λ (x : List ℕ). rest.0 ++ x) first.1 ∙ sym (append_assoc rest.0 first.0 w.points))
 
 -- equal places have equal parts
 pub part_same : (f g : ℕ → ℕ) (place n : ℕ) → ((a : ℕ) → f a ≡ g a) → part f place n ≡ part g place n
@@ -143,7 +126,7 @@ module _ (s : Setting) (ms : List ℕ) (k : Cuts) (h : IsCutSound s ms k) where
     };
     passed = h.passed;
     once = h.once;
-    points = λ c p is. let before = h.points c p is in let new = points_after s k.world e in
+    points = λ c p is. let before = h.points c p is in let new = (runs_only_add s k.world (e ∷ [])).points in
         (new.0 ++ before.0, new.1 ∙ ap (λ (x : List ℕ). new.0 ++ x) before.1 ∙ sym (append_assoc new.0 before.0 p));
     promises = h.promises;
   }

@@ -5,3 +5,7 @@ pub mod BackupLemmas
 pub mod WholeLemmas
 pub mod SoundnessLemmas
 pub mod SampleLemmas
+pub mod ProjectionLemmas
+pub mod HeldLemmas
+pub mod StopLemmas
+pub mod CaseLemmas

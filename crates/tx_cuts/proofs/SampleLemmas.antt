@@ -20,7 +20,7 @@ sample_is_mini : IsMini sample_mini
 sample_is_mini = record {
   participant = (0, inl refl);
   compared = λ m want h. absurd h;
-  read = λ m a h. absurd h;
+  read = λ m a item h. absurd h;
   written = λ m a v is. first m a v (m == 0) refl is;
   quiet = λ e. absurd (let x : true ≡ false = e in cc);
 }

@@ -9,7 +9,7 @@ use Rattle.tx_rules.proofs.SoundLemmas.{IsSound, always_sound}
 use Rattle.tx_actors.proofs.NodeLemmas.{run_append, after_append}
 use Rattle.tx_cuts.specs.Sound.{IsKeptAt, IsUndecided, IsSoundOf, IsToCome, IsSoundFor, SoundOpens, RunsAreSound, CrashImagesAreSound}
 use Rattle.tx_cuts.specs.Laws.{appending_all}
-use Rattle.tx_cuts.proofs.CutLemmas.{points_all}
+use Rattle.tx_rules.proofs.LawLemmas.{runs_only_add}
 use Rattle.tx_cuts.proofs.CrashLemmas.{crash_images_are_reached}
 
 pub sound_opens : SoundOpens
@@ -33,7 +33,7 @@ sound_opens s log image told sound = record {
   where
     stands : (m : ℕ) (r : Record) → In (At m r) log → IsSoundOf s log (named_in r) → Stands s (opened s log image) m r
     stands m (Grant t) h of_t = of_t.participants m (of_t.kept m h)
-    stands m (Refuse t) h of_t = tt
+    stands m (Refuse t why) h of_t = tt
     stands m (Commit t) h of_t = (of_t.whole m (inl (inl h)), λ n is. (of_t.commit m h n is).granted)
     stands m (Abort t) h of_t =
         let it = of_t.abort m h in
@@ -110,5 +110,5 @@ crash_images_are_sound s log image o events run durable distinct all =
     let both = run_append s (opened s log image) events more run (crash_images_are_reached s w durable distinct all) in (
       subst (λ (v : World). IsSoundFor s v.log v.image (flat s v.points)) (after_append s (opened s log image) events more)
           (runs_are_sound s log image o (events ++ more) both),
-      points_all s w more,
+      (runs_only_add s w more).points,
     )

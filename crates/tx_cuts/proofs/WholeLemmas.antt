@@ -1,22 +1,22 @@
 -- Every state that the whole reaches is reached by a run with cuts.
-use Rattle.std.proofs.Common.{◌≡◌, ℕ, ◌+◌, ◌≤◌, nat_le, ◌==◌, Bool, true, false, cond, ◌&&◌, List, [], ◌∷◌, ◌++◌, map, length, Option, Some, None, ◌⊎◌, inl, inr, refl, sym, ap, ◌∙◌, subst, arith}
-use Rattle.std.proofs.lemmas.Bool.{leb-true, cases_Bool}
-use Rattle.tx_rules.specs.Mini.{In, Memory, is_logged, Setting, nodes_of}
-use Rattle.tx_rules.specs.Decision.{Record, Grant, Refuse, Commit, Abort, Forget, Entry, At}
-use Rattle.tx_rules.specs.World.{Message, Prepare, Granted, Looked, Refused, DecideCommit, DecideAbort, Done, Forgotten, ListKept, Kept, Ask, AnswerOk, AnswerAbort, World, Event, Begins, Grants, Completes, Refuses, Commits, Aborts, Forgets, Posts, after, IsRun, after_all}
+use Rattle.std.proofs.Common.{◌≡◌, ℕ, ◌+◌, ◌≤◌, nat_le, ◌==◌, Bool, true, false, cond, List, [], ◌∷◌, ◌++◌, map, length, Option, Some, None, ◌⊎◌, inl, inr, refl, sym, ap, ◌∙◌, subst, arith}
+use Rattle.std.proofs.lemmas.Bool.{leb-true}
+use Rattle.tx_rules.specs.Mini.{In, Memory, Setting}
+use Rattle.tx_rules.specs.Decision.{Entry}
+use Rattle.tx_rules.specs.World.{World, after_all}
 use Rattle.tx_rules.specs.Opening.{IsOpening}
-use Rattle.tx_actors.specs.Tests.{is_in}
-use Rattle.tx_actors.specs.Node.{Standing, Above, Same, Below, standing, is_kept, is_undecided, has_decision, View, view, Reaction, silent, answers, grants_again, refuses, votes_by_floor, on_prepare, on_commit, forced, on_abort, on_forget, answers_by_floor, on_ask, to_participant, handle}
-use Rattle.tx_actors.specs.Coordinator.{may_begin, begin, resend}
-use Rattle.tx_actors.specs.Manager.{resend_manager}
-use Rattle.tx_actors.specs.Machine.{all_granted, event_of, appending, State, numbered, Input, Begin, ToNode, ToStoppingNode, ToCoordinator, ToManager, GiveUp, Resend, BootCoordinator, BootNode, Sweep, ResendManager, BootManager, idle, acts, to_node, to_coordinator, to_manager, move, step, IsAboveKnown}
+use Rattle.tx_rules.specs.Lists.{is_in}
+use Rattle.tx_actors.specs.Machine.{Input, Begin, ToNode, ToStoppingNode, ToCoordinator, ToManager, GiveUp, Resend, BootCoordinator, BootNode, Sweep, ResendManager, BootManager, move, step, IsAboveKnown}
 use Rattle.tx_actors.specs.Laws.{IsFitting}
 use Rattle.tx_actors.proofs.TestLemmas.{is_in-In}
 use Rattle.tx_actors.proofs.FitLemmas.{begun_all}
 use Rattle.tx_actors.proofs.MachineLemmas.{IsFit, move_well, opening_fit}
-use Rattle.tx_cuts.specs.Cut.{CutMessage, Hold, HeldOk, HeldLocked, HeldPast, Release, Drop, Read, Piece, PieceNone, StillHeld, Copy, Cuts, IsHolding, CutEvent, Does, Holds, Raises, Releases, Loses, Makes, Sends, IsClear, after_cut, IsCutRun, after_cuts}
-use Rattle.tx_cuts.specs.Backup.{Phase, Holding, Reading, Backup, Ending, BackedUp, Ended, CutAct, keeps, gives_up, resends, Whole, state_of, numbered_cut, WholeInput, Acts, CutToNode, CutToStoppingNode, Lists, CutToManager, BeginBackup, GiveUpBackup, ResendBackup, BootBackup, knowing, lost_in, is_held, handle_cut, handle_cut_stopping, on_read, on_list, manager_hears, with_events, with_act, with_move, begins_backup, whole_step, whole_steps, opened_whole}
+use Rattle.tx_cuts.specs.Cut.{CutMessage, Hold, HeldOk, HeldLocked, HeldPast, Release, Drop, Read, Piece, PieceNone, StillHeld, Cuts, CutEvent, Does, Holds, Raises, Releases, Loses, Makes, Sends, after_cut, IsCutRun, after_cuts}
+use Rattle.tx_cuts.specs.Holds.{on_read, on_list}
+use Rattle.tx_cuts.specs.Backup.{Phase, Holding, Reading, Backup, Ending, BackedUp, Ended, CutAct, keeps, gives_up, resends}
+use Rattle.tx_cuts.specs.Whole.{Whole, state_of, numbered_cut, WholeInput, Acts, CutToNode, CutToStoppingNode, Lists, CutToManager, BeginBackup, GiveUpBackup, ResendBackup, BootBackup, knowing, lost_in, handle_cut, handle_cut_stopping, manager_hears, with_events, with_act, with_move, begins_backup, whole_step, whole_steps, opened_whole}
 use Rattle.tx_cuts.specs.Laws.{WholesAreCutRuns, BackupsAreFlat}
+use Rattle.tx_cuts.proofs.HeldLemmas.{does_run, does_world, move_clear}
 use Rattle.tx_cuts.proofs.CutLemmas.{IsCutSound, cut_sound_all, cut_sound_opening}
 use Rattle.tx_cuts.proofs.BackupLemmas.{quiet_all, IsAllowed, hold_allowed, hold_stopping_allowed, release_allowed, drop_allowed, read_allowed, list_allowed, FitsPhase, FitsBackup, EndingStands, AreBelow, FitsAct, hears_fits, gives_up_fits, resends_fits, boots_fits, stays_fits}
 
@@ -26,188 +26,9 @@ cut_run_append : (s : Setting) (ms : List ℕ) (k : Cuts) (xs ys : List CutEvent
 cut_run_append s ms k [] ys first second = second
 cut_run_append s ms k (x ∷ xs) ys first second = (first.0, cut_run_append s ms (after_cut s k x) xs ys first.1 second)
 
-after_cuts_append : (s : Setting) (k : Cuts) (xs ys : List CutEvent) → after_cuts s k (xs ++ ys) ≡ after_cuts s (after_cuts s k xs) ys
+pub after_cuts_append : (s : Setting) (k : Cuts) (xs ys : List CutEvent) → after_cuts s k (xs ++ ys) ≡ after_cuts s (after_cuts s k xs) ys
 after_cuts_append s k [] ys = refl
 after_cuts_append s k (x ∷ xs) ys = after_cuts_append s (after_cut s k x) xs ys
-
--- what the transactions do changes the world alone
-does_world : (s : Setting) (k : Cuts) (events : List Event) → after_cuts s k (map Does events) ≡ record k { world = after_all s k.world events }
-does_world s k [] = refl
-does_world s k (e ∷ events) = does_world s (after_cut s k (Does e)) events
-
--- ---- no grant where a cut is held
-
-abbrev pub AllClear : Cuts → List Event → Type 0
-AllClear k [] = Unit {0}
-AllClear k (e ∷ events) = IsClear k e × AllClear k events
-
-holding_back : (k : Cuts) (v : World) (m : ℕ) → IsHolding (record k { world = v }) m → IsHolding k m
-holding_back k v m h = record { copy = h.copy; is = h.is; held = h.held }
-
-clear_later : (k : Cuts) (v : World) (e : Event) → IsClear k e → IsClear (record k { world = v }) e
-clear_later k v (Begins t) c = tt
-clear_later k v (Grants m t) c = λ h. c (holding_back k v m h)
-clear_later k v (Completes m t) c = λ h. c (holding_back k v m h)
-clear_later k v (Refuses m t) c = tt
-clear_later k v (Commits m t) c = tt
-clear_later k v (Aborts m t) c = tt
-clear_later k v (Forgets m t) c = tt
-clear_later k v (Posts p) c = tt
-
-all_clear_later : (k : Cuts) (v : World) (events : List Event) → AllClear k events → AllClear (record k { world = v }) events
-all_clear_later k v [] c = tt
-all_clear_later k v (e ∷ events) c = (clear_later k v e c.0, all_clear_later k v events c.1)
-
-does_run : (s : Setting) (ms : List ℕ) (k : Cuts) (events : List Event) → IsRun s k.world events → AllClear k events → IsCutRun s ms k (map Does events)
-does_run s ms k [] run clear = tt
-does_run s ms k (e ∷ events) run clear =
-    ((run.0, clear.0), does_run s ms (after_cut s k (Does e)) events run.1 (all_clear_later k (after s k.world e) events clear.1))
-
-clear_append : (k : Cuts) (xs ys : List Event) → AllClear k xs → AllClear k ys → AllClear k (xs ++ ys)
-clear_append k [] ys first second = second
-clear_append k (x ∷ xs) ys first second = (first.0, clear_append k xs ys first.1 second)
-
-posts_clear : (k : Cuts) (posts : List Message) → AllClear k (map Posts posts)
-posts_clear k [] = tt
-posts_clear k (p ∷ posts) = (tt, posts_clear k posts)
-
--- records without a grant
-abbrev pub NoGrant : List Record → Type 0
-NoGrant [] = Unit {0}
-NoGrant (Grant t ∷ rs) = ⊥
-NoGrant (r ∷ rs) = NoGrant rs
-
--- the records of a memory node that holds no cut, or grants nothing
-appending_clear : (s : Setting) (k : Cuts) (w : World) (m : ℕ) (rs : List Record) → (¬ IsHolding k m) ⊎ NoGrant rs → AllClear k (appending s w m rs)
-appending_clear s k w m [] h = tt
-appending_clear s k w m (Grant t ∷ rs) h = elim h [
-  | inl free ↦ (go (all_granted (At m (Grant t) ∷ w.log) t (nodes_of s t)) free, appending_clear s k (after s w (event_of s w m (Grant t))) m rs (inl free))
-  | inr none ↦ absurd none
-]
-  where
-    go : (b : Bool) → ¬ IsHolding k m → IsClear k (cond b (Completes m t) (Grants m t))
-    go true free = free
-    go false free = free
-appending_clear s k w m (Refuse t ∷ rs) h = (tt, appending_clear s k (after s w (Refuses m t)) m rs h)
-appending_clear s k w m (Commit t ∷ rs) h = (tt, appending_clear s k (after s w (Commits m t)) m rs h)
-appending_clear s k w m (Abort t ∷ rs) h = (tt, appending_clear s k (after s w (Aborts m t)) m rs h)
-appending_clear s k w m (Forget t ∷ rs) h = (tt, appending_clear s k (after s w (Forgets m t)) m rs h)
-
--- a memory node that holds a cut grants nothing
-cond_no_grant : (b : Bool) (x y : Reaction) → NoGrant x.appends → NoGrant y.appends → NoGrant (cond b x y).appends
-cond_no_grant true x y a c = a
-cond_no_grant false x y a c = c
-
-module _ (s : Setting) (m : ℕ) (v : View) where
-  forced_none : (t : ℕ) (x : Standing) → NoGrant (forced t x)
-  forced_none t Above = tt
-  forced_none t (Same vote) = tt
-  forced_none t Below = tt
-
-  refuses_none : (t : ℕ) → NoGrant (refuses s m t).appends
-  refuses_none t = cond_no_grant (is_logged (s.mini t)) (record { appends = Refuse t ∷ []; posts = Refused m t ∷ [] }) (answers (Refused m t)) tt tt
-
-  floor_none : (t : ℕ) (x : Standing) → NoGrant (votes_by_floor s m true v t x).appends
-  floor_none t Above = refuses_none t
-  floor_none t (Same true) = tt
-  floor_none t (Same false) = tt
-  floor_none t Below = tt
-
-  cond_record : (b : Bool) (r : Record) (rs : List Record) → NoGrant (r ∷ []) → NoGrant rs → NoGrant (cond b (r ∷ []) rs)
-  cond_record true r rs a c = a
-  cond_record false r rs a c = c
-
-  asks_none : (t : ℕ) (x : Standing) → NoGrant (answers_by_floor m t x).appends
-  asks_none t Above = tt
-  asks_none t (Same true) = tt
-  asks_none t (Same false) = tt
-  asks_none t Below = tt
-
-  participant_none : (t : ℕ) (a : Reaction) → NoGrant a.appends → NoGrant (to_participant s m t a).appends
-  participant_none t a none = cond_no_grant (is_in m (nodes_of s t)) a silent none tt
-
-  held_none : (p : Message) → NoGrant (handle s m true v p).appends
-  held_none (Prepare t) = participant_none t (on_prepare s m true v t)
-      (cond_no_grant (is_kept s v.records t) (grants_again s m v t) (votes_by_floor s m true v t (standing s v.records t)) tt (floor_none t (standing s v.records t)))
-  held_none (DecideCommit t) = participant_none t (on_commit m v t) (cond_record (is_undecided v.records t) (Commit t) [] tt tt)
-  held_none (DecideAbort t) = participant_none t (on_abort s m v t) (cond_record (is_undecided v.records t) (Abort t) (forced t (standing s v.records t)) tt (forced_none t (standing s v.records t)))
-  held_none (Forgotten t) = participant_none t (on_forget s v t) (cond_record (is_kept s v.records t && has_decision v.records t) (Forget t) [] tt tt)
-  held_none (Ask t) = participant_none t (on_ask s m v t)
-      (cond_no_grant (is_kept s v.records t) (answers (AnswerOk m t)) (answers_by_floor m t (standing s v.records t)) tt (asks_none t (standing s v.records t)))
-  held_none ListKept = tt
-  held_none (Granted n t bytes) = tt
-  held_none (Looked n t bytes) = tt
-  held_none (Refused n t) = tt
-  held_none (Done n t) = tt
-  held_none (Kept n ts) = tt
-  held_none (AnswerOk n t) = tt
-  held_none (AnswerAbort n t) = tt
-
-some_copy_is : (x y : Copy) → ◌≡◌ {A = Option Copy} (Some x) (Some y) → x ≡ y
-some_copy_is x y e = cc
-
--- a memory node holds no cut, or knows that it does
-holding_known : (k : Cuts) (m : ℕ) → (¬ IsHolding k m) ⊎ (is_held (k.copies m) ≡ true)
-holding_known k m = elim (cases_Bool (is_held (k.copies m))) [
-  | inl held ↦ inr held
-  | inr free ↦ inl (λ h. not_held h.copy h.is h.held free)
-]
-  where
-    not_held : (copy : Copy) → k.copies m ≡ Some copy → copy.held ≡ true → is_held (k.copies m) ≡ false → ⊥
-    not_held copy is held free = let e : true ≡ false = sym held ∙ sym (ap is_held is) ∙ free in cc
-
-node_clear : (s : Setting) (st : State) (k : Cuts) (m : ℕ) (stops : Bool) (o : Option Message) → AllClear k (to_node s st m (is_held (k.copies m)) stops o).events
-node_clear s st k m stops None = tt
-node_clear s st k m stops (Some p) =
-    let a = handle s m (is_held (k.copies m)) (view st.world m) p in
-    clear_append k (appending s st.world m a.appends) (cond stops [] (map Posts a.posts))
-    (appending_clear s k st.world m a.appends (elim (holding_known k m) [
-      | inl free ↦ inl free
-      | inr held ↦ inr (subst (λ b. NoGrant (handle s m b (view st.world m) p).appends) (sym held) (held_none s m (view st.world m) p))
-    ]))
-    (rest stops a.posts)
-  where
-    rest : (b : Bool) (posts : List Message) → AllClear k (cond b [] (map Posts posts))
-    rest true posts = tt
-    rest false posts = posts_clear k posts
-
-hears_clear : (s : Setting) (st : State) (k : Cuts) (o : Option Message) → AllClear k (to_coordinator s st o).events
-hears_clear s st k None = tt
-hears_clear s st k (Some (Granted m t bytes)) = posts_clear k _
-hears_clear s st k (Some (Looked m t bytes)) = posts_clear k _
-hears_clear s st k (Some (Refused m t)) = posts_clear k _
-hears_clear s st k (Some (Done m t)) = posts_clear k _
-hears_clear s st k (Some (Prepare t)) = tt
-hears_clear s st k (Some (DecideCommit t)) = tt
-hears_clear s st k (Some (DecideAbort t)) = tt
-hears_clear s st k (Some (Forgotten t)) = tt
-hears_clear s st k (Some ListKept) = tt
-hears_clear s st k (Some (Kept m ts)) = tt
-hears_clear s st k (Some (Ask t)) = tt
-hears_clear s st k (Some (AnswerOk m t)) = tt
-hears_clear s st k (Some (AnswerAbort m t)) = tt
-
-learns_clear : (s : Setting) (st : State) (k : Cuts) (o : Option Message) → AllClear k (to_manager s st o).events
-learns_clear s st k None = tt
-learns_clear s st k (Some p) = posts_clear k _
-
-move_clear : (s : Setting) (st : State) (k : Cuts) (input : Input) → AllClear k (move s st (knowing k input)).events
-move_clear s st k (Begin t) = go (may_begin (st.coordinator (s.coord t)) t (st.coordinator (s.coord t)).running)
-  where
-    go : (b : Bool) → AllClear k (cond b (acts st (s.coord t) (Begins t ∷ []) (begin (st.coordinator (s.coord t)) t)) (idle st)).events
-    go true = (tt, (tt, tt))
-    go false = tt
-move_clear s st k (ToNode n m held) = node_clear s st k m false (numbered st.world.posted n)
-move_clear s st k (ToStoppingNode n m held) = node_clear s st k m true (numbered st.world.posted n)
-move_clear s st k (ToCoordinator n) = hears_clear s st k (numbered st.world.posted n)
-move_clear s st k (ToManager n) = learns_clear s st k (numbered st.world.posted n)
-move_clear s st k (GiveUp c) = tt
-move_clear s st k (Resend c) = posts_clear k (resend (st.coordinator c)).posts
-move_clear s st k (BootCoordinator c) = tt
-move_clear s st k (BootNode m) = tt
-move_clear s st k Sweep = (tt, tt)
-move_clear s st k ResendManager = posts_clear k (resend_manager st.manager)
-move_clear s st k BootManager = tt
 
 -- ---- the invariant
 
@@ -380,7 +201,7 @@ module _ (s : Setting) (size : ℕ) (ms : List ℕ) (x : Whole) (h : IsWhole s s
   acts_well input fitting =
       let m = move s (state_of x) (knowing x.cuts input) in
       let well = move_well s (state_of x) h.fit (knowing x.cuts input) fitting in
-      let first : IsCutRun s ms x.cuts (map Does m.events) = does_run s ms x.cuts m.events well.0 (move_clear s (state_of x) x.cuts input) in
+      let first : IsCutRun s ms x.cuts (map Does m.events) = does_run s ms x.cuts m.events well.0 (move_clear s x h.fit input) in
       let k = after_cuts s x.cuts (map Does m.events) in
       let is : k ≡ record x.cuts { world = after_all s x.cuts.world m.events } = does_world s x.cuts m.events in
       let lost = lose k input in

@@ -1,75 +1,8 @@
--- Backups: what memory nodes and the manager do about cuts, and the whole machine with them.
-use Rattle.std.specs.Prelude.{ℕ, ◌+◌, ◌-◌, min, nat_le, nat_lt, ◌==◌, Bool, false, cond, ◌&&◌, ◌||◌, List, [], ◌∷◌, ◌++◌, map, length, Option, Some, None}
-use Rattle.tx_rules.specs.Mini.{Memory, Setting}
-use Rattle.tx_rules.specs.Decision.{Record, Entry}
-use Rattle.tx_actors.specs.Tests.{is_in, all_in}
-use Rattle.tx_actors.specs.Node.{own, is_undecided, granted_in}
-use Rattle.tx_actors.specs.Coordinator.{Coordinator, Outcome}
-use Rattle.tx_actors.specs.Manager.{Work}
-use Rattle.tx_actors.specs.Machine.{State, Input, ToNode, ToStoppingNode, BootNode, Move, move}
-use Rattle.tx_cuts.specs.Cut.{CutMessage, Hold, HeldOk, HeldLocked, HeldPast, Release, Drop, Read, Piece, PieceNone, StillHeld, Copy, Cuts, opened_cuts, part, CutEvent, Does, Holds, Raises, Releases, Loses, Makes, Sends, after_cuts}
-
--- ---- a memory node
-
--- whether the cut floor of a memory node is at the cut or above
-abbrev pub cut_passed : List (ℕ × ℕ) → ℕ → ℕ → Bool
-cut_passed [] m c = false
-cut_passed (floor ∷ floors) m c = ((floor.0 == m) && nat_le c floor.1) || cut_passed floors m c
-
--- whether any of these records is undecided
-abbrev pub any_undecided : List Record → List ℕ → Bool
-any_undecided rs [] = false
-any_undecided rs (t ∷ ts) = is_undecided rs t || any_undecided rs ts
-
--- whether a copy is of the cut, and whether it is held
-abbrev pub is_of : ℕ → Option Copy → Bool
-is_of c None = false
-is_of c (Some copy) = copy.cut == c
-
--- whether a copy is held
-abbrev pub is_held : Option Copy → Bool
-is_held None = false
-is_held (Some copy) = copy.held
-
--- `hold`: ok again where the cut is held or copied; past at the cut floor or below; else the cut is the floor, an
--- older copy is dropped, and without a lock the image is copied and held
-abbrev pub on_hold : Cuts → ℕ → ℕ → List CutEvent
-on_hold k m c =
-    cond (is_of c (k.copies m)) (Sends (HeldOk m c) ∷ [])
-    (cond (cut_passed k.floors m c) (Sends (HeldPast m c) ∷ [])
-    (cond (any_undecided (own m k.world.log) (granted_in (own m k.world.log)))
-    (Raises m c ∷ Sends (HeldLocked m c) ∷ [])
-    (Holds m c ∷ Sends (HeldOk m c) ∷ [])))
-
--- the same, where the memory node stops when its cut floor is durable
-abbrev pub on_hold_stopping : Cuts → ℕ → ℕ → List CutEvent
-on_hold_stopping k m c = cond (is_of c (k.copies m)) (Loses m ∷ []) (cond (cut_passed k.floors m c) (Loses m ∷ []) (Raises m c ∷ Loses m ∷ []))
-
--- `release` ends the hold and keeps the copy
-abbrev pub on_release : ℕ → ℕ → Option Copy → List CutEvent
-on_release m c None = []
-on_release m c (Some copy) = cond (copy.cut == c) (Releases m copy ∷ []) []
-
--- `drop` ends the hold and the copy
-abbrev pub on_drop : ℕ → ℕ → Option Copy → List CutEvent
-on_drop m c copy = cond (is_of c copy) (Loses m ∷ []) []
-
--- how many bytes a piece has: at most 65,536, and no more than an image has from its place
-abbrev pub piece_bytes : ℕ → ℕ → ℕ
-piece_bytes size place = min (size - place) 65536
-
--- `read` sends the bytes of the copy from a place
-abbrev pub on_read : ℕ → ℕ → ℕ → ℕ → Option Copy → List CutEvent
-on_read size m c place None = Sends (PieceNone m c place) ∷ []
-on_read size m c place (Some copy) =
-    cond (copy.cut == c) (Sends (Piece m c place (part copy.image place (piece_bytes size place))) ∷ []) (Sends (PieceNone m c place) ∷ [])
-
--- an answer to `list` names the cut that is held
-abbrev pub on_list : ℕ → Option Copy → List CutEvent
-on_list m None = []
-on_list m (Some copy) = cond copy.held (Sends (StillHeld m copy.cut) ∷ []) []
-
--- ---- the manager
+-- What the manager does about cuts: it runs one backup at a time.
+use Rattle.std.specs.Prelude.{ℕ, nat_lt, ◌==◌, cond, ◌&&◌, List, [], ◌∷◌, ◌++◌, length, Option, Some, None}
+use Rattle.tx_rules.specs.Lists.{all_in}
+use Rattle.tx_cuts.specs.Cut.{CutMessage, Hold, HeldOk, HeldLocked, HeldPast, Release, Drop, Read, Piece, PieceNone, StillHeld, CutEvent, Makes, Sends}
+use Rattle.tx_cuts.specs.Holds.{piece_bytes}
 
 -- a backup holds, and knows who has sent `held ok`; or it reads: from which memory nodes it has still to read, what
 -- it has of the first of them, and the images that it has whole
@@ -127,24 +60,24 @@ hear_piece size m c place piece b (Reading (n ∷ left) bytes images) =
     (keeps (Some b))
 
 -- each message; those of other cuts are ignored, but for a cut that is still held, which is dropped
-abbrev pub hear_cut : ℕ → List ℕ → Backup → CutMessage → CutAct
-hear_cut size ms b (HeldOk m c) = cond (b.cut == c) (hear_held ms m c b b.phase) (keeps (Some b))
-hear_cut size ms b (HeldLocked m c) = cond (b.cut == c) (fails c) (keeps (Some b))
-hear_cut size ms b (HeldPast m c) = cond (b.cut == c) (fails c) (keeps (Some b))
-hear_cut size ms b (PieceNone m c place) = cond (b.cut == c) (fails c) (keeps (Some b))
-hear_cut size ms b (Piece m c place piece) = cond (b.cut == c) (hear_piece size m c place piece b b.phase) (keeps (Some b))
-hear_cut size ms b (StillHeld m c) = cond (b.cut == c) (keeps (Some b)) (record (keeps (Some b)) { events = Sends (Drop c) ∷ [] })
-hear_cut size ms b message = keeps (Some b)
+abbrev pub running_hears : ℕ → List ℕ → Backup → CutMessage → CutAct
+running_hears size ms b (HeldOk m c) = cond (b.cut == c) (hear_held ms m c b b.phase) (keeps (Some b))
+running_hears size ms b (HeldLocked m c) = cond (b.cut == c) (fails c) (keeps (Some b))
+running_hears size ms b (HeldPast m c) = cond (b.cut == c) (fails c) (keeps (Some b))
+running_hears size ms b (PieceNone m c place) = cond (b.cut == c) (fails c) (keeps (Some b))
+running_hears size ms b (Piece m c place piece) = cond (b.cut == c) (hear_piece size m c place piece b b.phase) (keeps (Some b))
+running_hears size ms b (StillHeld m c) = cond (b.cut == c) (keeps (Some b)) (record (keeps (Some b)) { events = Sends (Drop c) ∷ [] })
+running_hears size ms b message = keeps (Some b)
 
 -- the same without a running backup
-abbrev pub hear_no_cut : CutMessage → CutAct
-hear_no_cut (StillHeld m c) = record (keeps None) { events = Sends (Drop c) ∷ [] }
-hear_no_cut message = keeps None
+abbrev pub idle_hears : CutMessage → CutAct
+idle_hears (StillHeld m c) = record (keeps None) { events = Sends (Drop c) ∷ [] }
+idle_hears message = keeps None
 
 -- each message, with a running backup or without
-abbrev pub hears_cut : ℕ → List ℕ → Option Backup → CutMessage → CutAct
-hears_cut size ms None message = hear_no_cut message
-hears_cut size ms (Some b) message = hear_cut size ms b message
+abbrev pub hears : ℕ → List ℕ → Option Backup → CutMessage → CutAct
+hears size ms None message = idle_hears message
+hears size ms (Some b) message = running_hears size ms b message
 
 -- a backup is given up
 abbrev pub gives_up : Option Backup → CutAct
@@ -161,130 +94,3 @@ posts_again c (Reading (m ∷ left) bytes images) = Sends (Release c) ∷ Sends 
 abbrev pub resends : Option Backup → CutAct
 resends None = keeps None
 resends (Some b) = record (keeps (Some b)) { events = posts_again b.cut b.phase }
-
--- ---- the whole
-
--- the transactions and the cuts; the actors; the least cut that may begin next, the running backup, and how backups
--- ended, newest first
-pub record Whole : Type 0 where
-  pub cuts : Cuts
-  pub coordinator : ℕ → Coordinator
-  pub manager : List Work
-  pub outcomes : List Outcome
-  pub next_cut : ℕ
-  pub backup : Option Backup
-  pub endings : List Ending
-
--- the actors of the transactions
-abbrev pub state_of : Whole → State
-state_of x = record { world = x.cuts.world; coordinator = x.coordinator; manager = x.manager; outcomes = x.outcomes }
-
--- messages about cuts are numbered in the order in which they were sent, from 0
-abbrev pub numbered_cut : List CutMessage → ℕ → Option CutMessage
-numbered_cut [] k = None
-numbered_cut (p ∷ ps) k = cond (length ps == k) (Some p) (numbered_cut ps k)
-
--- what may happen, in any order and any number of times
-pub data WholeInput : Type 0 where
-  -- to the actors of the transactions; a memory node knows by itself whether it holds a cut
-  Acts : Input → WholeInput
-  -- a message about a cut is delivered to a memory node, which may stop when its cut floor is durable
-  CutToNode : ℕ → ℕ → WholeInput
-  CutToStoppingNode : ℕ → ℕ → WholeInput
-  -- a memory node answers `list`
-  Lists : ℕ → WholeInput
-  -- a message about a cut is delivered to the manager; it begins a backup, gives it up, posts again, or crashes
-  CutToManager : ℕ → WholeInput
-  BeginBackup : ℕ → WholeInput
-  GiveUpBackup : WholeInput
-  ResendBackup : WholeInput
-  BootBackup : WholeInput
-
--- an input to a memory node with whether it holds a cut
-abbrev pub knowing : Cuts → Input → Input
-knowing k (ToNode n m held) = ToNode n m (is_held (k.copies m))
-knowing k (ToStoppingNode n m held) = ToStoppingNode n m (is_held (k.copies m))
-knowing k input = input
-
--- the copy that is lost where a memory node stops
-abbrev pub lost_in : Input → List CutEvent
-lost_in (ToStoppingNode n m held) = Loses m ∷ []
-lost_in (BootNode m) = Loses m ∷ []
-lost_in input = []
-
--- a memory node handles a message about a cut
-abbrev pub handle_cut : ℕ → Cuts → ℕ → Option CutMessage → List CutEvent
-handle_cut size k m (Some (Hold c)) = on_hold k m c
-handle_cut size k m (Some (Release c)) = on_release m c (k.copies m)
-handle_cut size k m (Some (Drop c)) = on_drop m c (k.copies m)
-handle_cut size k m (Some (Read n c place)) = cond (n == m) (on_read size m c place (k.copies m)) []
-handle_cut size k m message = []
-
--- the same, where the memory node stops; what it has beside its log is lost
-abbrev pub handle_cut_stopping : Cuts → ℕ → Option CutMessage → List CutEvent
-handle_cut_stopping k m (Some (Hold c)) = on_hold_stopping k m c
-handle_cut_stopping k m message = Loses m ∷ []
-
--- what the manager does with a message
-abbrev pub manager_hears : ℕ → List ℕ → Option Backup → Option CutMessage → CutAct
-manager_hears size ms b None = keeps b
-manager_hears size ms b (Some message) = hears_cut size ms b message
-
--- what a step leads to
-abbrev pub with_events : Setting → Whole → List CutEvent → Whole
-with_events s x events = record x { cuts = after_cuts s x.cuts events }
-
--- what an act of the manager leads to
-abbrev pub with_act : Setting → Whole → CutAct → Whole
-with_act s x act = record x { cuts = after_cuts s x.cuts act.events; backup = act.backup; endings = act.ends ++ x.endings }
-
--- what a move of the transactions leads to, and what is lost in it
-abbrev pub with_move : Setting → Whole → Move → List CutEvent → Whole
-with_move s x m lost =
-    record x { cuts = after_cuts s x.cuts (map Does m.events ++ lost); coordinator = m.coordinator; manager = m.manager; outcomes = m.outcomes }
-
--- a backup begins where none runs, with a new cut
-abbrev pub begins_backup : Setting → Whole → ℕ → Option Backup → Whole
-begins_backup s x c (Some b) = x
-begins_backup s x c None =
-    cond (nat_le x.next_cut c)
-    (record x {
-      cuts = after_cuts s x.cuts (Sends (Hold c) ∷ []);
-      next_cut = c + 1;
-      backup = Some (record { cut = c; phase = Holding [] });
-    })
-    x
-
--- one input, with images of this size at these memory nodes
-abbrev pub whole_step : Setting → ℕ → List ℕ → Whole → WholeInput → Whole
-whole_step s size ms x (Acts input) = with_move s x (move s (state_of x) (knowing x.cuts input)) (lost_in input)
-whole_step s size ms x (CutToNode n m) = cond (is_in m ms) (with_events s x (handle_cut size x.cuts m (numbered_cut x.cuts.sent n))) x
-whole_step s size ms x (CutToStoppingNode n m) = with_events s x (handle_cut_stopping x.cuts m (numbered_cut x.cuts.sent n))
-whole_step s size ms x (Lists m) = with_events s x (on_list m (x.cuts.copies m))
-whole_step s size ms x (CutToManager n) = with_act s x (manager_hears size ms x.backup (numbered_cut x.cuts.sent n))
-whole_step s size ms x (BeginBackup c) = begins_backup s x c x.backup
-whole_step s size ms x GiveUpBackup = with_act s x (gives_up x.backup)
-whole_step s size ms x ResendBackup = with_act s x (resends x.backup)
-whole_step s size ms x BootBackup = with_act s x (keeps None)
-
--- a list of inputs, oldest first
-abbrev pub whole_steps : Setting → ℕ → List ℕ → Whole → List WholeInput → Whole
-whole_steps s size ms x [] = x
-whole_steps s size ms x (input ∷ inputs) = whole_steps s size ms (whole_step s size ms x input) inputs
-
--- the whole at an opening
-abbrev pub opened_whole : Setting → List Entry → Memory → List (ℕ × ℕ) → (ℕ → ℕ) → ℕ → Whole
-opened_whole s log image floors next next_cut =
-    record {
-      cuts = opened_cuts s log image floors;
-      coordinator = λ c. record { next = next c; running = None; finishing = [] };
-      manager = [];
-      outcomes = [];
-      next_cut = next_cut;
-      backup = None;
-      endings = [];
-    }
-
--- the images of these memory nodes in a memory
-abbrev pub images_in : ℕ → List ℕ → Memory → List (List ℕ)
-images_in size ms memory = map (λ m. part (memory m) 0 size) ms

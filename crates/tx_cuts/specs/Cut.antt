@@ -1,8 +1,8 @@
 -- Cuts: copies of all memory nodes' images at one moment, as rules over what is durable, copied, made and sent.
-use Rattle.std.specs.Prelude.{◌≡◌, ℕ, zero, suc, ◌+◌, ◌≤◌, ◌==◌, Bool, true, false, cond, List, [], ◌∷◌, Option, Some, None, ⊤}
+use Rattle.std.specs.Prelude.{◌≡◌, ℕ, zero, suc, ◌+◌, ◌≤◌, ◌==◌, Bool, true, false, cond, List, [], ◌∷◌, Option, Some, None, ◌⊎◌, ⊤}
 use Rattle.tx_rules.specs.Mini.{In, Memory, Setting, flat}
-use Rattle.tx_rules.specs.Decision.{Entry, IsOpen}
-use Rattle.tx_rules.specs.World.{World, opened, Event, Grants, Completes, May, after}
+use Rattle.tx_rules.specs.Decision.{Reason, Held, Refuse, Entry, At, IsOpen}
+use Rattle.tx_rules.specs.World.{Refused, World, opened, Event, Grants, Completes, Refuses, Posts, May, after}
 
 -- a message about a cut. Those of a memory node name it first, and so does `Read`, which goes to one; the others go to
 -- all memory nodes
@@ -79,10 +79,21 @@ pub data CutEvent : Type 0 where
   Makes : ℕ → CutEvent
   Sends : CutMessage → CutEvent
 
--- nothing is granted where a cut is held
+-- a memory node with this copy holds the cut
+abbrev pub IsHeld : Option Copy → ℕ → Type 0
+IsHeld o cut = (copy : Copy) × (o ≡ Some copy) × (copy.held ≡ true) × (copy.cut ≡ cut)
+
+-- where a vote is refused since a cut is held, that cut is held
+abbrev pub IsHeldSo : Option Copy → Reason → Type 0
+IsHeldSo o (Held cut) = IsHeld o cut
+IsHeldSo o why = ⊤
+
+-- nothing is granted where a cut is held, and a vote is Held only by the cut that is held when it is cast
 abbrev pub IsClear : Cuts → Event → Type 0
 IsClear k (Grants m t) = ¬ IsHolding k m
 IsClear k (Completes m t) = ¬ IsHolding k m
+IsClear k (Refuses m t why) = IsHeldSo (k.copies m) why
+IsClear k (Posts (Refused m t why)) = In (At m (Refuse t why)) k.world.log ⊎ IsHeldSo (k.copies m) why
 IsClear k e = ⊤
 
 -- when it may happen, with these memory nodes: a cut is held above the cut floor where no record is undecided; a hold

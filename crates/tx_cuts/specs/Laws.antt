@@ -1,14 +1,16 @@
 -- What holds of cuts, of openings from what a run left, and of crashes.
 use Rattle.std.specs.Prelude.{◌≡◌, ℕ, true, List, [], ◌∷◌, ◌++◌, Some, ◌⊎◌, ◌↔◌, ⊤}
 use Rattle.tx_rules.specs.Mini.{In, Memory, Setting, flat}
-use Rattle.tx_rules.specs.Decision.{Record, Entry, IsOpen, IsCommitted}
-use Rattle.tx_rules.specs.World.{World, Event, Grants, Completes, Refuses, Commits, Aborts, Forgets, IsRun, after_all}
+use Rattle.tx_rules.specs.Decision.{Held, Record, Entry, IsOpen, IsCommitted}
+use Rattle.tx_rules.specs.World.{Refused, World, Event, Refuses, Posts, IsRun, after_all}
 use Rattle.tx_rules.specs.Opening.{IsOpening}
 use Rattle.tx_rules.specs.Laws.{AlwaysHolds}
-use Rattle.tx_actors.specs.Machine.{appending, IsAboveKnown}
+use Rattle.tx_actors.specs.Node.{AllElsewhere}
+use Rattle.tx_actors.specs.Machine.{appending, Input, steps, IsAboveKnown}
 use Rattle.tx_actors.specs.Laws.{IsFitting}
-use Rattle.tx_cuts.specs.Cut.{CutMessage, Copy, Cuts, opened_cuts, CutEvent, Does, CutPromises, IsCutRun, after_cuts}
-use Rattle.tx_cuts.specs.Backup.{BackedUp, Whole, WholeInput, whole_steps, opened_whole, images_in}
+use Rattle.tx_cuts.specs.Cut.{CutMessage, Copy, Cuts, opened_cuts, IsHeld, CutEvent, Does, CutPromises, IsCutRun, after_cuts}
+use Rattle.tx_cuts.specs.Backup.{BackedUp}
+use Rattle.tx_cuts.specs.Whole.{Whole, state_of, WholeInput, Acts, knowing, whole_step, whole_steps, opened_whole, images_in}
 
 -- ---- cuts
 
@@ -47,6 +49,22 @@ abbrev pub HoldsAreStill : Type 0
 HoldsAreStill = AlwaysCut (λ s ms k. (m : ℕ) (copy : Copy) → k.copies m ≡ Some copy → copy.held ≡ true
     → ((t : ℕ) → ¬ IsOpen k.world.log m t) × ((a : ℕ) → k.world.image m a ≡ copy.image a))
 
+-- in these events a vote was cast since a cut was held, with its entry or by the message alone, when it was held
+pub record WasHeld (s : Setting) (k : Cuts) (events : List CutEvent) (m t cut : ℕ) : Type 0 where
+  pub first : List CutEvent
+  pub cast : Event
+  pub rest : List CutEvent
+  pub split : events ≡ first ++ Does cast ∷ rest
+  pub kind : (cast ≡ Refuses m t (Held cut)) ⊎ (cast ≡ Posts (Refused m t (Held cut)))
+  pub held : IsHeld ((after_cuts s k first).copies m) cut
+
+-- each posted vote that is Held was cast when its cut was held there
+abbrev pub HeldVotesWereHeld : Type 0
+HeldVotesWereHeld = (s : Setting) (ms : List ℕ) (log : List Entry) (image : Memory) (floors : List (ℕ × ℕ)) → IsOpening s log image
+    → (events : List CutEvent) → IsCutRun s ms (opened_cuts s log image floors) events
+    → (m t cut : ℕ) → In (Refused m t (Held cut)) (after_cuts s (opened_cuts s log image floors) events).world.posted
+    → WasHeld s (opened_cuts s log image floors) events m t cut
+
 -- ---- opening again
 
 -- how what is known is sorted at the next opening: found are those with an undecided record, early the committed ones
@@ -68,21 +86,6 @@ OpensAgain = AlwaysHolds (λ s w. (old found early : List ℕ) → IsSorted s w 
     → IsOpening (next_setting s w old found early) w.log w.image)
 
 -- ---- crashes
-
--- an event that appends nothing to the log of the memory node
-abbrev pub IsElsewhere : ℕ → Event → Type 0
-IsElsewhere m (Grants n t) = ¬ (n ≡ m)
-IsElsewhere m (Completes n t) = ¬ (n ≡ m)
-IsElsewhere m (Refuses n t) = ¬ (n ≡ m)
-IsElsewhere m (Commits n t) = ¬ (n ≡ m)
-IsElsewhere m (Aborts n t) = ¬ (n ≡ m)
-IsElsewhere m (Forgets n t) = ¬ (n ≡ m)
-IsElsewhere m e = ⊤
-
--- events that append nothing to the log of the memory node
-abbrev pub AllElsewhere : ℕ → List Event → Type 0
-AllElsewhere m [] = ⊤
-AllElsewhere m (e ∷ events) = IsElsewhere m e × AllElsewhere m events
 
 -- what a memory node may append, it may still append after events elsewhere: so where it went down and its start finds
 -- the records, they count from then on
@@ -128,3 +131,19 @@ WholesAreCutRuns = (s : Setting) (size : ℕ) (ms : List ℕ) (log : List Entry)
 abbrev pub BackupsAreFlat : Type 0
 BackupsAreFlat = AlwaysBacked (λ s size ms x. (c : ℕ) (images : List (List ℕ)) → In (BackedUp c images) x.endings
     → (points : List ℕ) × In (c, points) x.cuts.made × (images ≡ images_in size ms (flat s points)))
+
+-- what the actors of the transactions are given among these inputs, each with whether a cut is held
+abbrev pub acted : Setting → ℕ → List ℕ → Whole → List WholeInput → List Input
+acted s size ms x [] = []
+acted s size ms x (Acts input ∷ inputs) = knowing x.cuts input ∷ acted s size ms (whole_step s size ms x (Acts input)) inputs
+acted s size ms x (input ∷ inputs) = acted s size ms (whole_step s size ms x input) inputs
+
+-- inputs, and then more inputs
+abbrev pub WholeStepsJoin : Type 0
+WholeStepsJoin = (s : Setting) (size : ℕ) (ms : List ℕ) (x : Whole) (first more : List WholeInput)
+    → whole_steps s size ms x (first ++ more) ≡ whole_steps s size ms (whole_steps s size ms x first) more
+
+-- without its cuts the whole is a state of the transactions: so all that holds of those holds beside backups
+abbrev pub WholesAreStates : Type 0
+WholesAreStates = (s : Setting) (size : ℕ) (ms : List ℕ) (x : Whole) (inputs : List WholeInput)
+    → state_of (whole_steps s size ms x inputs) ≡ steps s (state_of x) (acted s size ms x inputs)

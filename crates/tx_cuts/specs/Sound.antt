@@ -1,11 +1,13 @@
 -- When the logs and images on disks are sound for a memory, in the terms of kept records.
-use Rattle.std.specs.Prelude.{◌≡◌, ℕ, List, ◌++◌, Some, ◌⊎◌, ◌↔◌}
+use Rattle.std.specs.Prelude.{◌≡◌, ℕ, List, [], ◌∷◌, ◌++◌, map, Option, Some, None, ◌⊎◌, ◌↔◌, ⊤}
 use Rattle.tx_rules.specs.Mini.{In, Memory, IsMini, Setting, nodes_of, IsLogged, flat}
 use Rattle.tx_rules.specs.Decision.{Record, Commit, Abort, Forget, Entry, At, named_in, IsGranted, IsPassed, IsDecided, IsOpen}
 use Rattle.tx_rules.specs.Opening.{IsOpening}
-use Rattle.tx_rules.specs.World.{IsRun, after_all}
+use Rattle.tx_rules.specs.World.{Message, IsRun, after_all}
 use Rattle.tx_rules.specs.Laws.{AlwaysHolds}
-use Rattle.tx_actors.specs.Machine.{appending}
+use Rattle.tx_actors.specs.Node.{View, view, after_records, handle}
+use Rattle.tx_actors.specs.Machine.{appending, State, Input, ToStoppingNode, numbered, steps}
+use Rattle.tx_actors.specs.Laws.{AlwaysReached}
 use Rattle.tx_cuts.specs.Laws.{AreDistinct, appending_all}
 
 -- a memory node keeps the record of the identifier: it was granted, and is not forgotten
@@ -69,3 +71,45 @@ CrashImagesAreSound = AlwaysHolds (λ s w. (durable : List (ℕ × List Record))
     → IsSoundFor s (after_all s w (appending_all s w durable)).log (after_all s w (appending_all s w durable)).image
     (flat s (after_all s w (appending_all s w durable)).points)
     × ((new : List ℕ) × ((after_all s w (appending_all s w durable)).points ≡ new ++ w.points)))
+
+-- ---- crashes of the actors
+
+-- so what the actors reach is sound for the flat memory
+abbrev pub StatesAreSound : Type 0
+StatesAreSound = AlwaysReached (λ s st. IsSoundFor s st.world.log st.world.image (flat s st.world.points))
+
+-- a memory node stops in handling the message with this number, while it holds this cut or none, when its records are
+-- durable
+pub record Stop : Type 0 where
+  pub node : ℕ
+  pub message : ℕ
+  pub held : Option ℕ
+
+abbrev pub stopping : Stop → Input
+stopping x = ToStoppingNode x.message x.node x.held
+
+-- no memory node stops twice
+abbrev pub AreApartStops : List Stop → Type 0
+AreApartStops [] = ⊤
+AreApartStops (x ∷ stops) = ((y : Stop) → In y stops → ¬ (y.node ≡ x.node)) × AreApartStops stops
+
+-- what a memory node has in its log and image then, by what it had and by the message
+abbrev pub stopped_with : Setting → Stop → View → Option Message → View
+stopped_with s x v None = v
+stopped_with s x v (Some message) = after_records s x.node v (handle s x.node x.held v message).appends
+
+-- a state in which memory nodes have stopped: it is sound for the flat memory with the points that their records
+-- complete, behind those so far; each of them has what its own records make of what it had, and the others what they
+-- had; and nothing is begun or posted
+pub record IsCrashOf (s : Setting) (st : State) (stops : List Stop) (crashed : State) : Type 0 where
+  pub sound : IsSoundFor s crashed.world.log crashed.world.image (flat s crashed.world.points)
+  pub points : (new : List ℕ) × (crashed.world.points ≡ new ++ st.world.points)
+  pub stopped : (x : Stop) → In x stops → view crashed.world x.node ≡ stopped_with s x (view st.world x.node) (numbered st.world.posted x.message)
+  pub others : (m : ℕ) → ((x : Stop) → In x stops → ¬ (x.node ≡ m)) → view crashed.world m ≡ view st.world m
+  pub begun : crashed.world.begun ≡ st.world.begun
+  pub posted : crashed.world.posted ≡ st.world.posted
+
+-- several memory nodes crash together, each with its records for a message durable: this is a state of the actors again,
+-- whatever the order, and what is left is sound
+abbrev pub CrashedStatesAreSound : Type 0
+CrashedStatesAreSound = AlwaysReached (λ s st. (stops : List Stop) → AreApartStops stops → IsCrashOf s st stops (steps s st (map stopping stops)))

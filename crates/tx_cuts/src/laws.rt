@@ -1,6 +1,7 @@
 //! Laws of cuts, openings and crashes.
-ghost use Rattle.tx_cuts.specs.Laws.{CutRunsAreRuns, CopiesAreFlat, CutPromisesAreKept, CutsAreMadeOnce, HoldsAreStill, OpensAgain, RecordsMayWait, CrashImagesAreReached, WholesAreCutRuns, BackupsAreFlat};
-ghost use Rattle.tx_cuts.specs.Sound.{SoundOpens, RunsAreSound, CrashImagesAreSound};
+ghost use Rattle.tx_cuts.specs.Laws.{CutRunsAreRuns, CopiesAreFlat, CutPromisesAreKept, CutsAreMadeOnce, HoldsAreStill, HeldVotesWereHeld, OpensAgain, RecordsMayWait, CrashImagesAreReached, WholesAreCutRuns, WholesAreStates, WholeStepsJoin, BackupsAreFlat};
+ghost use Rattle.tx_cuts.specs.Sound.{SoundOpens, RunsAreSound, CrashImagesAreSound, StatesAreSound, CrashedStatesAreSound};
+ghost use Rattle.tx_cuts.specs.Cases.{CutsGoOn, BackupsEnd};
 ghost use Rattle.tx_cuts.specs.Sample.{BackupEndsWell, OpeningEndsWell};
 
 /// With cuts the transactions still run by their rules.
@@ -26,6 +27,11 @@ pub fn cuts_are_made_once()
 /// While a memory node holds a cut, its image is the copy.
 pub fn holds_are_still()
     ensures { HoldsAreStill }
+{}
+
+/// Each posted vote that is Held was cast when its cut was held there.
+pub fn held_votes_were_held()
+    ensures { HeldVotesWereHeld }
 {}
 
 /// The cluster opens from the logs and images that any run leaves, with the flat memory as it was.
@@ -76,4 +82,34 @@ pub fn crash_images_are_sound()
 /// An opening with a committed identifier that is undecided everywhere, and a sweep that finishes it.
 pub fn opening_ends_well()
     ensures { OpeningEndsWell }
+{}
+
+/// Without its cuts the whole is a state of the transactions.
+pub fn wholes_are_states()
+    ensures { WholesAreStates }
+{}
+
+/// What the actors reach is sound for the flat memory.
+pub fn states_are_sound()
+    ensures { StatesAreSound }
+{}
+
+/// Inputs behind inputs lead where both lead one after another.
+pub fn whole_steps_join()
+    ensures { WholeStepsJoin }
+{}
+
+/// Memory nodes that crash together, each with its records durable, leave a state of the actors, and it is sound.
+pub fn crashed_states_are_sound()
+    ensures { CrashedStatesAreSound }
+{}
+
+/// A hold is repeated, a cut that is left held is dropped, a lock drops the older copy, and a crash loses the copy.
+pub fn cuts_go_on()
+    ensures { CutsGoOn }
+{}
+
+/// What ends a backup, what it ignores, and how much a piece has.
+pub fn backups_end()
+    ensures { BackupsEnd }
 {}

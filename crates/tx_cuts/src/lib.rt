@@ -10,8 +10,9 @@
 mod laws;
 
 pub use laws::{
-    backup_ends_well, backups_are_flat, copies_are_flat, crash_images_are_reached,
-    crash_images_are_sound, cut_promises_are_kept, cut_runs_are_runs, cuts_are_made_once,
-    holds_are_still, opening_ends_well, opens_again, records_may_wait, runs_are_sound, sound_opens,
-    wholes_are_cut_runs,
+    backup_ends_well, backups_are_flat, backups_end, copies_are_flat, crash_images_are_reached,
+    crash_images_are_sound, crashed_states_are_sound, cut_promises_are_kept, cut_runs_are_runs,
+    cuts_are_made_once, cuts_go_on, held_votes_were_held, holds_are_still, opening_ends_well,
+    opens_again, records_may_wait, runs_are_sound, sound_opens, states_are_sound, whole_steps_join,
+    wholes_are_cut_runs, wholes_are_states,
 };

@@ -2,8 +2,8 @@
 use Rattle.std.proofs.Common.{◌≡◌, ℕ, List, [], ◌∷◌, ◌++◌, ◌⊎◌, inl, inr, refl, sym, ap, subst, arith}
 use Rattle.std.proofs.lemmas.Bool.{cases_eq}
 use Rattle.tx_rules.specs.Mini.{In, Memory, IsMini, Setting, IsLive, IsFresh}
-use Rattle.tx_rules.specs.Decision.{Record, Grant, Refuse, Commit, Abort, Forget, Entry, At, named_in, IsGranted, IsPassed, IsRefused, IsOpen, IsCommitted, IsAborted}
-use Rattle.tx_rules.specs.World.{Message, World, IsNew, Stands, Promises, MayGrant, Event, Begins, Grants, Completes, Refuses, Commits, Aborts, Forgets, Posts, May, with_sight, after, opened}
+use Rattle.tx_rules.specs.Decision.{Reason, Forced, Held, Locked, Mismatch, Record, Grant, Refuse, Commit, Abort, Forget, Entry, At, named_in, IsGranted, IsCast, IsPassed, IsRefused, IsOpen, IsCommitted, IsAborted}
+use Rattle.tx_rules.specs.World.{Message, World, IsOutdated, IsForced, IsNew, Stands, Promises, MayGrant, Event, Begins, Grants, Completes, Refuses, Commits, Aborts, Forgets, Posts, May, with_sight, after, opened}
 use Rattle.tx_rules.specs.Opening.{HasPoint, IsOpening}
 use Rattle.tx_rules.specs.Laws.{IsDistinct, IsPoint}
 use Rattle.tx_rules.proofs.GrowthLemmas.{Grows, one_node, one_record, one_grant, granted_passed, refused_grows, committed_grows, stands_grow, promises_grow, grows_entry, grows_grant, grows}
@@ -16,11 +16,21 @@ pub record IsFaithful (s : Setting) (w : World) : Type 0 where
   pub closed : (m t : ℕ) → In t s.old → ¬ IsOpen w.log m t
   pub minis : (t : ℕ) → In t w.begun → IsLive s t → IsMini (s.mini t)
   pub stands : (m : ℕ) (r : Record) → In (At m r) w.log → IsLive s (named_in r) → Stands s w m r
-  pub refused : (m t : ℕ) → In (At m (Refuse t)) w.log → IsFresh s t → IsRefused s w.log m t
+  pub refused : (m t : ℕ) (why : Reason) → In (At m (Refuse t why)) w.log → IsFresh s t → IsRefused s w.log m t
   pub promises : (p : Message) → In p w.posted → Promises s w p
   pub points : (t : ℕ) → In t w.points → IsPoint s w t
   pub committed : (t : ℕ) → In t w.begun → IsLive s t → IsCommitted s w.log t → HasPoint s w.points t
   pub distinct : IsDistinct w.points
+
+-- a floor above an identifier is a newer one that was begun
+pub outdated : (s : Setting) (w : World) → IsFaithful s w → (m t : ℕ) (why : Reason) → IsForced s w m t why → IsOutdated s w t
+outdated s w f m t (Forced floor) b = record { newer = floor; begun = begun b.cast; same = b.same; above = b.above }
+  where
+    begun : IsCast w.log m floor → In floor w.begun
+    begun c = elim c [ inl g ↦ f.known m (Grant floor) g | inr r ↦ f.known m (Refuse floor r.0) r.1 ]
+outdated s w f m t (Held cut) b = absurd b
+outdated s w f m t (Locked holder) b = absurd b
+outdated s w f m t (Mismatch item) b = absurd b
 
 -- an aborted identifier is not committed
 pub not_both : (s : Setting) (log : List Entry) (t : ℕ) → IsCommitted s log t → IsAborted s log t → ⊥
@@ -102,7 +112,7 @@ module _ (s : Setting) (w : World) (f : IsFaithful s w) where
 
   appends : (m : ℕ) (r : Record) (image : Memory) → ((t : ℕ) → ¬ (r ≡ Grant t)) → In (named_in r) w.begun
       → (IsLive s (named_in r) → Stands s (record w { log = At m r ∷ w.log; image = image }) m r)
-      → ((t : ℕ) → r ≡ Refuse t → IsRefused s (At m r ∷ w.log) m t)
+      → ((t : ℕ) (why : Reason) → r ≡ Refuse t why → IsRefused s (At m r ∷ w.log) m t)
       → IsFaithful s (record w { log = At m r ∷ w.log; image = image })
   appends m r image plain begun new refusal =
       let v : World = record w { log = At m r ∷ w.log; image = image } in
@@ -122,9 +132,9 @@ module _ (s : Setting) (w : World) (f : IsFaithful s w) where
               (subst (λ x. IsLive s (named_in x) → Stands s v m x) (sym (one_record n m q r is)) new live)
           | inr before ↦ stands_grow s w v g n q (f.stands n q before live)
         ];
-        refused = λ n u h fresh. elim h [
-          | inl is ↦ subst (λ x. IsRefused s v.log x u) (sym (one_node n m (Refuse u) r is)) (refusal u (sym (one_record n m (Refuse u) r is)))
-          | inr before ↦ refused_grows s w v g n u (f.refused n u before fresh)
+        refused = λ n u why h fresh. elim h [
+          | inl is ↦ subst (λ x. IsRefused s v.log x u) (sym (one_node n m (Refuse u why) r is)) (refusal u why (sym (one_record n m (Refuse u why) r is)))
+          | inr before ↦ refused_grows s w v g n u (f.refused n u why before fresh)
         ];
         promises = λ q h. promises_grow s w v g q (f.promises q h);
         points = λ u h. point_grows v g u (f.points u h);
@@ -160,9 +170,9 @@ module _ (s : Setting) (w : World) (f : IsFaithful s w) where
               (subst (λ x. Stands s v m x) (sym (one_record n m q (Grant t) is)) (may.participant, may.logged))
           | inr before ↦ stands_grow s w v g n q (f.stands n q before live)
         ];
-        refused = λ n u h fresh. elim h [
-          | inl is ↦ absurd (let e = one_record n m (Refuse u) (Grant t) is in cc)
-          | inr before ↦ refused_grows s w v g n u (f.refused n u before fresh)
+        refused = λ n u why h fresh. elim h [
+          | inl is ↦ absurd (let e = one_record n m (Refuse u why) (Grant t) is in cc)
+          | inr before ↦ refused_grows s w v g n u (f.refused n u why before fresh)
         ];
         promises = λ q h. promises_grow s w v g q (f.promises q h);
         points = are;
@@ -198,17 +208,17 @@ module _ (s : Setting) (w : World) (f : IsFaithful s w) where
       (λ c. inl (inl refl))
       (λ u h. elim h [ inl p ↦ inl (inr p) | inr e ↦ inr e ])
       (λ h. no_point_yet m t may.0 (inl h), f.distinct)
-  faithful_after (Refuses m t) may =
-      appends m (Refuse t) w.image (λ u e. absurd cc) may.0 (λ live. tt) (λ u e. refusal u (same u e))
+  faithful_after (Refuses m t why) may =
+      appends m (Refuse t why) w.image (λ u e. absurd cc) may.0 (λ live. tt) (λ u other e. refusal u (same u other e))
     where
-      same : (u : ℕ) → Refuse t ≡ Refuse u → u ≡ t
-      same u e = cc
+      same : (u : ℕ) (other : Reason) → Refuse t why ≡ Refuse u other → u ≡ t
+      same u other e = cc
 
-      refusal : (u : ℕ) → u ≡ t → IsRefused s (At m (Refuse t) ∷ w.log) m u
+      refusal : (u : ℕ) → u ≡ t → IsRefused s (At m (Refuse t why) ∷ w.log) m u
       refusal u is = record {
-        passed = record { by = t; cast = inr (inl refl); same = ap s.coord (sym is); above = omega (arith, is) };
+        passed = record { by = t; cast = inr (why, inl refl); same = ap s.coord (sym is); above = omega (arith, is) };
         never = λ h. elim h [
-          | inl e ↦ let x = one_record m m (Grant u) (Refuse t) e in cc
+          | inl e ↦ let x = one_record m m (Grant u) (Refuse t why) e in cc
           | inr before ↦ may.1 (subst (IsPassed s w.log m) is (granted_passed s w.log m u before))
         ];
       }
@@ -216,17 +226,17 @@ module _ (s : Setting) (w : World) (f : IsFaithful s w) where
       let g = grows s w (Commits m t) may in
       let v = after s w (Commits m t) in
       appends m (Commit t) v.image (λ u e. absurd cc) (f.known m (Grant t) may.1.granted)
-      (λ live. (inr may.1.granted, committed_grows s w v g t may.2)) (λ u e. absurd cc)
+      (λ live. (inr may.1.granted, committed_grows s w v g t may.2)) (λ u why e. absurd cc)
   faithful_after (Aborts m t) may =
       let g = grows s w (Aborts m t) may in
       let v = after s w (Aborts m t) in
       appends m (Abort t) w.image (λ u e. absurd cc) (f.known m (Grant t) may.1.granted)
-      (λ live. stands_grow s w v g m (Abort t) (may.1.granted, may.2)) (λ u e. absurd cc)
+      (λ live. stands_grow s w v g m (Abort t) (may.1.granted, may.2)) (λ u why e. absurd cc)
   faithful_after (Forgets m t) may =
       let g = grows s w (Forgets m t) may in
       let v = after s w (Forgets m t) in
       appends m (Forget t) w.image (λ u e. absurd cc) may.0
-      (λ live. stands_grow s w v g m (Forget t) (may.1 live)) (λ u e. absurd cc)
+      (λ live. stands_grow s w v g m (Forget t) (may.1 live)) (λ u why e. absurd cc)
 
 -- ---- what is found at an opening
 
@@ -251,7 +261,7 @@ module _ (s : Setting) (log : List Entry) (image : Memory) (o : IsOpening s log 
   pub live_found : (t : ℕ) → In t (s.found ++ s.old) → IsLive s t → In t s.found
   live_found t h live = elim (in_either t s.found s.old h) [ inl a ↦ a | inr b ↦ absurd (live b) ]
 
-  known_begun : (m : ℕ) (r : Record) → In (At m r) log → In (named_in r) (s.found ++ s.old)
+  pub known_begun : (m : ℕ) (r : Record) → In (At m r) log → In (named_in r) (s.found ++ s.old)
   known_begun m r h = elim (o.known m r h) [ inl a ↦ in_front (named_in r) s.found s.old a | inr b ↦ in_back (named_in r) s.found s.old b ]
 
   pub faithful_opening : IsFaithful s (opened s log image)
@@ -263,7 +273,7 @@ module _ (s : Setting) (log : List Entry) (image : Memory) (o : IsOpening s log 
     closed = o.closed;
     minis = λ t h live. o.minis t (live_found t h live);
     stands = λ m r h live. o.stands m r h (live_found (named_in r) (known_begun m r h) live);
-    refused = λ m t h fresh. absurd (fresh.1 (live_found t (known_begun m (Refuse t) h) fresh.0));
+    refused = λ m t why h fresh. absurd (fresh.1 (live_found t (known_begun m (Refuse t why) h) fresh.0));
     promises = λ p h. absurd h;
     points = λ t h. absurd h;
     committed = λ t h live c. inr (o.committed t (live_found t h live) c);

@@ -2,8 +2,8 @@
 use Rattle.std.proofs.Common.{◌≡◌, ℕ, ◌==◌, ◌&&◌, false, cond, List, ◌∷◌, inl, inr, refl, sym, ap, ◌∙◌, subst, arith}
 use Rattle.std.proofs.lemmas.Bool.{eq-eqb, ne_eqb, and_left, and_right, cases_eq}
 use Rattle.tx_rules.specs.Mini.{In, Memory, Setting, reads_of}
-use Rattle.tx_rules.specs.Decision.{Record, Grant, Refuse, Commit, Abort, Forget, Entry, At, IsGranted, IsPassed, IsRefused, IsDecided, IsCommitted, IsAborted, IsThrough, IsOver}
-use Rattle.tx_rules.specs.World.{Message, Prepare, Granted, Looked, Refused, DecideCommit, DecideAbort, Done, Forgotten, ListKept, Kept, Ask, AnswerOk, AnswerAbort, World, IsOutdated, Stands, Promises, MayGrant, Event, Begins, Grants, Completes, Refuses, Commits, Aborts, Forgets, Posts, May, with_sight, after}
+use Rattle.tx_rules.specs.Decision.{Reason, Forced, Held, Locked, Mismatch, Record, Grant, Refuse, Commit, Abort, Forget, Entry, At, IsGranted, IsCast, IsPassed, IsBelow, IsRefused, IsDecided, IsCommitted, IsAborted, IsThrough, IsOver}
+use Rattle.tx_rules.specs.World.{Message, Prepare, Granted, Looked, Refused, DecideCommit, DecideAbort, Done, Forgotten, ListKept, Kept, Ask, AnswerOk, AnswerAbort, World, IsOutdated, IsForced, IsFounded, Stands, Promises, MayGrant, Event, Begins, Grants, Completes, Refuses, Commits, Aborts, Forgets, Posts, May, with_sight, after}
 
 -- one world has all that the other has, and grants nothing that was passed
 pub record Grows (s : Setting) (w v : World) : Type 0 where
@@ -44,9 +44,15 @@ own_sight w m t = ap (λ b. cond b (w.image m) (w.seen t m)) (ap (λ b. b && (m 
 -- ---- what stays
 
 module _ (s : Setting) (w v : World) (g : Grows s w v) where
+  pub cast_grows : (m t : ℕ) → IsCast w.log m t → IsCast v.log m t
+  cast_grows m t c = elim c [ inl h ↦ inl (g.log (At m (Grant t)) h) | inr h ↦ inr (h.0, g.log (At m (Refuse t h.0)) h.1) ]
+
+  pub below_grows : (m t floor : ℕ) → IsBelow s w.log m t floor → IsBelow s v.log m t floor
+  below_grows m t floor b = record { cast = cast_grows m floor b.cast; same = b.same; above = b.above }
+
   pub passed_grows : (m t : ℕ) → IsPassed s w.log m t → IsPassed s v.log m t
   passed_grows m t p =
-      record { by = p.by; cast = elim p.cast [ inl h ↦ inl (g.log (At m (Grant p.by)) h) | inr h ↦ inr (g.log (At m (Refuse p.by)) h) ]; same = p.same; above = p.above }
+      record { by = p.by; cast = cast_grows m p.by p.cast; same = p.same; above = p.above }
 
   pub refused_grows : (m t : ℕ) → IsRefused s w.log m t → IsRefused s v.log m t
   refused_grows m t r = record { passed = passed_grows m t r.passed; never = λ h. r.never (g.kept m t r.passed h) }
@@ -66,13 +72,24 @@ module _ (s : Setting) (w v : World) (g : Grows s w v) where
   pub over_grows : (t : ℕ) → IsOver s w.log t → IsOver s v.log t
   over_grows t o m h = through_grows m t (o m h)
 
-  pub outdated_grows : (t : ℕ) → IsOutdated s w t → IsOutdated s v t
-  outdated_grows t o = record { newer = o.newer; begun = g.begun o.newer o.begun; same = o.same; above = o.above }
+  -- what a refusal stands on stays
+  forced_grows : (m t : ℕ) (why : Reason) → IsForced s w m t why → IsForced s v m t why
+  forced_grows m t (Forced floor) h = below_grows m t floor h
+  forced_grows m t (Held cut) h = h
+  forced_grows m t (Locked holder) h = h
+  forced_grows m t (Mismatch item) h = h
+
+  pub founded_grows : (m t : ℕ) (why : Reason) → IsFounded s w m t why → IsFounded s v m t why
+  founded_grows m t why h = elim h [
+    | inl r ↦ inl (g.log (At m (Refuse t why)) r.0, refused_grows m t r.1)
+    | inr (inl f) ↦ inr (inl (forced_grows m t why f))
+    | inr (inr r) ↦ inr (inr r)
+  ]
 
   -- an entry keeps its promise
   pub stands_grow : (m : ℕ) (r : Record) → Stands s w m r → Stands s v m r
   stands_grow m (Grant t) h = h
-  stands_grow m (Refuse t) h = tt
+  stands_grow m (Refuse t why) h = tt
   stands_grow m (Commit t) h = (g.log (At m (Grant t)) h.0, committed_grows t h.1)
   stands_grow m (Abort t) h = (g.log (At m (Grant t)) h.0, aborted_grows t h.1)
   stands_grow m (Forget t) h = (decided_grows m t h.0, over_grows t h.1)
@@ -83,15 +100,7 @@ module _ (s : Setting) (w v : World) (g : Grows s w v) where
   promises_grow (Granted m t bytes) h =
       (g.begun t h.0, h.1, g.log (At m (Grant t)) h.2, h.3 ∙ ap (reads_of s t m) (sym (g.seen m t h.2)))
   promises_grow (Looked m t bytes) h = (g.begun t h.0, h.1, h.2, h.3)
-  promises_grow (Refused m t) h = (
-    g.begun t h.0,
-    h.1,
-    elim h.2 [
-      | inl r ↦ inl (refused_grows m t r)
-      | inr (inl o) ↦ inr (inl (outdated_grows t o))
-      | inr (inr r) ↦ inr (inr r)
-    ],
-  )
+  promises_grow (Refused m t why) h = (g.begun t h.0, h.1, founded_grows m t why h.2)
   promises_grow (DecideCommit t) h = (g.begun t h.0, λ live. ((h.1 live).0, committed_grows t (h.1 live).1))
   promises_grow (DecideAbort t) h = (
     g.begun t h.0,
@@ -106,7 +115,7 @@ module _ (s : Setting) (w v : World) (g : Grows s w v) where
   promises_grow (Done m t) h = (g.begun t h.0, λ live. through_grows m t (h.1 live))
   promises_grow (Forgotten t) h = (g.begun t h.0, λ live. over_grows t (h.1 live))
   promises_grow ListKept h = tt
-  promises_grow (Kept m ts) h = λ t is. (g.begun t (h t is).0, (h t is).1)
+  promises_grow (Kept m xs) h = λ x is. (g.begun x.0 (h x is).0, (h x is).1)
   promises_grow (Ask t) h = (g.begun t h.0, h.1)
   promises_grow (AnswerOk m t) h = (g.begun t h.0, λ live. g.log (At m (Grant t)) (h.1 live))
   promises_grow (AnswerAbort m t) h = (
@@ -149,7 +158,7 @@ module _ (s : Setting) (w : World) where
   grows (Begins t) may = record { begun = λ u h. inr h; log = λ e h. h; kept = λ m u p h. h; seen = λ m u h. refl }
   grows (Grants m t) may = grows_grant m t w.points may.0
   grows (Completes m t) may = grows_grant m t (t ∷ w.points) may.0
-  grows (Refuses m t) may = grows_entry m (Refuse t) w.image (λ u e. absurd cc)
+  grows (Refuses m t why) may = grows_entry m (Refuse t why) w.image (λ u e. absurd cc)
   grows (Commits m t) may = grows_entry m (Commit t) _ (λ u e. absurd cc)
   grows (Aborts m t) may = grows_entry m (Abort t) w.image (λ u e. absurd cc)
   grows (Forgets m t) may = grows_entry m (Forget t) w.image (λ u e. absurd cc)

@@ -1,12 +1,12 @@
 -- The laws.
-use Rattle.std.proofs.Common.{◌≡◌, ℕ, Bool, true, false, cond, List, [], ◌∷◌, ◌++◌, map, Option, Some, None, unwrap_or, ◌⊎◌, inl, inr, refl, sym, ap, ◌∙◌, subst, arith}
+use Rattle.std.proofs.Common.{◌≡◌, ℕ, Bool, true, false, cond, List, [], ◌∷◌, ◌++◌, map, Option, Some, None, unwrap_or, ◌⊎◌, inl, inr, refl, sym, ap, ◌∙◌, subst, arith, append_assoc}
 use Rattle.std.proofs.lemmas.Bool.{cases_eq}
-use Rattle.tx_rules.specs.Mini.{In, Setting, nodes_of, cells_of, IsFresh, AreApart, flat}
-use Rattle.tx_rules.specs.Decision.{Grant, Commit, Abort, Forget, IsOpen}
-use Rattle.tx_rules.specs.World.{Message, Granted, Looked, Refused, World, opened, Event, Begins, Grants, Completes, Refuses, Commits, Aborts, Forgets, Posts, May, after, IsRun, after_all}
-use Rattle.tx_rules.specs.Laws.{BeginningsAreNew, DecisionsExclude, DecisionsStay, LoggedDecisionsAgree, ForgottenIsOver, PromisesAreKept, VotesCommit, RefusedNeverCommits, LocksAreApart, LocksStayApart, PointsAreTheCommitted, AllMatch, PointsMatch, history, HistoryIsFlat, OpenPointsTrade, ReadsAreFlat, LooksAreFlat, LooksHadTheirMoment, ImagesAreFlat, UnlockedIsFlat, IsPoint}
-use Rattle.tx_rules.proofs.GrowthLemmas.{committed_grows, aborted_grows, over_grows, decided_grows}
-use Rattle.tx_rules.proofs.FaithfulLemmas.{not_both, in_back}
+use Rattle.tx_rules.specs.Mini.{In, Want, IsMini, Setting, nodes_of, cells_of, IsLive, IsFresh, reads_of, DiffersAt, AreApart, flat}
+use Rattle.tx_rules.specs.Decision.{Reason, Forced, Held, Locked, Mismatch, Grant, Refuse, Commit, Abort, Forget, At, IsOpen}
+use Rattle.tx_rules.specs.World.{Message, Granted, Looked, Refused, World, opened, HasReason, Event, Begins, Grants, Completes, Refuses, Commits, Aborts, Forgets, Posts, May, after, IsRun, after_all}
+use Rattle.tx_rules.specs.Laws.{BeginningsAreNew, NamedWasBegun, HasAdded, RunsOnlyAdd, HasFlatReason, WasCast, RefusalsHadTheirReason, DecisionsExclude, DecisionsStay, LoggedDecisionsAgree, ForgottenIsOver, PromisesAreKept, VotesCommit, RefusedNeverCommits, LocksAreApart, LocksStayApart, PointsAreTheCommitted, AllMatch, PointsMatch, history, HistoryIsFlat, OpenPointsTrade, ReadsAreFlat, LooksAreFlat, LooksHadTheirMoment, ImagesAreFlat, UnlockedIsFlat, IsPoint}
+use Rattle.tx_rules.proofs.GrowthLemmas.{one_record, committed_grows, aborted_grows, over_grows, decided_grows}
+use Rattle.tx_rules.proofs.FaithfulLemmas.{not_both, in_back, live_found, known_begun, outdated}
 use Rattle.tx_rules.proofs.StoredLemmas.{AreRead, pending_touched}
 use Rattle.tx_rules.proofs.SoundLemmas.{IsSound, always_sound, sound_after_all, grows_all, not_fresh_all}
 
@@ -37,15 +37,15 @@ votes_commit s log image o events run t votes m is =
 -- ---- refusals
 
 pub refused_never_commits : RefusedNeverCommits
-refused_never_commits s log image o events run m t posted is newest more more_run c =
+refused_never_commits s log image o events run m t why posted is newest more more_run c =
     let w = after_all s (opened s log image) events in
     let v = after_all s w more in
     let sound = always_sound s log image o events run in
-    let promise = sound.faithful.promises (Refused m t) posted in
+    let promise = sound.faithful.promises (Refused m t why) posted in
     let later = sound_after_all s w more more_run sound in
     elim promise.2 [
-      | inl refused ↦ not_both s v.log t c (aborted_grows s w v (grows_all s w more more_run) t (record { node = m; participant = is; refused = refused }))
-      | inr (inl outdated) ↦ newest outdated
+      | inl refused ↦ not_both s v.log t c (aborted_grows s w v (grows_all s w more more_run) t (record { node = m; participant = is; refused = refused.1 }))
+      | inr (inl forced) ↦ newest (outdated s w sound.faithful m t why forced)
       | inr (inr reader) ↦ let e : true ≡ false = sym (later.faithful.stands m (Grant t) (c m is) promise.1.0).1 ∙ reader in cc
     ]
 
@@ -107,7 +107,7 @@ module _ (s : Setting) (w : World) (sound : IsSound s w) where
   points_match [] all read = tt
   points_match (t ∷ points) all read =
       let p = all t (inl refl) in (
-        λ m is want h. sym (read.0 m want.0 is ((sound.faithful.minis t p.begun p.fresh.0).compared m want h))
+        λ m is want h. sym (read.0 m want.cell is ((sound.faithful.minis t p.begun p.fresh.0).compared m want h))
             ∙ sound.stored.wanted m t p.fresh (p.committed m is) want h,
         points_match points (λ u h. all u (inr h)) read.1,
       )
@@ -133,7 +133,7 @@ module _ (s : Setting) (w : World) (sound : IsSound s w) where
     where
       go : (b : Bool) → (s.mini t).has_write ≡ b → AllMatch s (history s points) → AllMatch s (history s (t ∷ points))
       go true is rest = subst (λ (x : Bool). AllMatch s (cond x (t ∷ history s points) (history s points))) (sym is)
-          (λ m here want h. history_flat points (λ u k. all u (inr k)) m want.0 ∙ match.0 m here want h, rest)
+          (λ m here want h. history_flat points (λ u k. all u (inr k)) m want.cell ∙ match.0 m here want h, rest)
       go false is rest = subst (λ (x : Bool). AllMatch s (cond x (t ∷ history s points) (history s points))) (sym is) rest
 
   -- what was read at a point
@@ -185,14 +185,23 @@ map_same f g [] same = refl
 map_same f g (x ∷ xs) same =
     ap (λ (y : ℕ). y ∷ map f xs) (same x (inl refl)) ∙ ap (λ (ys : List ℕ). g x ∷ ys) (map_same f g xs (λ y h. same y (inr h)))
 
+-- the read items find the same where the touched cells hold the same
+reads_same : (s : Setting) (t m : ℕ) → IsMini (s.mini t) → (f g : ℕ → ℕ) → ((a : ℕ) → In a (cells_of s t m) → f a ≡ g a) → reads_of s t m f ≡ reads_of s t m g
+reads_same s t m mini f g same = go ((s.mini t).reads m) (λ item is. is)
+  where
+    go : (items : List (List ℕ)) → ((item : List ℕ) → In item items → In item ((s.mini t).reads m)) → map (map f) items ≡ map (map g) items
+    go [] all = refl
+    go (item ∷ items) all =
+        ap (λ (x : List ℕ). x ∷ map (map f) items) (map_same f g item (λ a h. same a (mini.read m a item (all item (inl refl)) h)))
+        ∙ ap (λ (xs : List (List ℕ)). map g item ∷ xs) (go items (λ x h. all x (inr h)))
+
 pub reads_are_flat : ReadsAreFlat
 reads_are_flat s log image o events run m t bytes posted is later before split =
     let w = after_all s (opened s log image) events in
     let sound = always_sound s log image o events run in
     let promise = sound.faithful.promises (Granted m t bytes) posted in
-    promise.3 ∙ map_same (w.seen t m) (flat s before m) ((s.mini t).reads m) (λ a h.
-    read_behind s w sound later t before (subst (AreRead s w.seen) split sound.stored.read) m a is
-    ((sound.faithful.minis t promise.0 promise.1.0).read m a h))
+    promise.3 ∙ reads_same s t m (sound.faithful.minis t promise.0 promise.1.0) (w.seen t m) (flat s before m) (λ a touched.
+    read_behind s w sound later t before (subst (AreRead s w.seen) split sound.stored.read) m a is touched)
 
 pub looks_are_flat : LooksAreFlat
 looks_are_flat s log image o events run m t bytes may =
@@ -200,27 +209,26 @@ looks_are_flat s log image o events run m t bytes may =
     let sound = always_sound s log image o events run in
     let mini = sound.faithful.minis t may.0.0 may.0.1.0 in
     let same : (a : ℕ) → In a (cells_of s t m) → w.image m a ≡ flat s w.points m a = (λ a touched. look_flat s w sound m t a may.1.unlocked touched) in (
-      may.1.now ∙ map_same (w.image m) (flat s w.points m) ((s.mini t).reads m) (λ a h. same a (mini.read m a h)),
-      λ want h. sym (same want.0 (mini.compared m want h)) ∙ may.1.matching want h,
+      may.1.now ∙ reads_same s t m mini (w.image m) (flat s w.points m) same,
+      λ want h. sym (same want.cell (mini.compared m want h)) ∙ may.1.matching want h,
     )
 
--- a message that is posted later was posted by an event
-posted_then : (s : Setting) (w : World) (e : Event) (events : List Event) (p : Message) → In p (after s w e).posted
-    → In p w.posted ⊎ ((first : List Event) × (rest : List Event) × (e ∷ events ≡ first ++ Posts p ∷ rest))
-posted_then s w (Begins t) events p h = inl h
-posted_then s w (Grants m t) events p h = inl h
-posted_then s w (Completes m t) events p h = inl h
-posted_then s w (Refuses m t) events p h = inl h
-posted_then s w (Commits m t) events p h = inl h
-posted_then s w (Aborts m t) events p h = inl h
-posted_then s w (Forgets m t) events p h = inl h
-posted_then s w (Posts q) events p h = elim h [ inl is ↦ inr ([], events, ap (λ (x : Message). Posts x ∷ events) (sym is)) | inr before ↦ inl before ]
+-- a message that is posted after an event was posted before, or by it
+pub posted_by : (s : Setting) (w : World) (e : Event) (p : Message) → In p (after s w e).posted → In p w.posted ⊎ (e ≡ Posts p)
+posted_by s w (Begins t) p h = inl h
+posted_by s w (Grants m t) p h = inl h
+posted_by s w (Completes m t) p h = inl h
+posted_by s w (Refuses m t why) p h = inl h
+posted_by s w (Commits m t) p h = inl h
+posted_by s w (Aborts m t) p h = inl h
+posted_by s w (Forgets m t) p h = inl h
+posted_by s w (Posts q) p h = elim h [ inl is ↦ inr (ap Posts (sym is)) | inr before ↦ inl before ]
 
 posted_when : (s : Setting) (w : World) (events : List Event) (p : Message) → In p (after_all s w events).posted
     → In p w.posted ⊎ ((first : List Event) × (rest : List Event) × (events ≡ first ++ Posts p ∷ rest))
 posted_when s w [] p h = inl h
 posted_when s w (e ∷ events) p h = elim (posted_when s (after s w e) events p h) [
-  | inl before ↦ posted_then s w e events p before
+  | inl before ↦ elim (posted_by s w e p before) [ inl old ↦ inl old | inr now ↦ inr ([], events, ap (λ (x : Event). x ∷ events) now) ]
   | inr it ↦ inr (e ∷ it.0, it.1, ap (λ (x : List Event). e ∷ x) it.2)
 ]
 
@@ -236,14 +244,161 @@ beginnings_are_new s w events run first rest t split h =
     let below = it.1.0 t h refl in
     omega (arith, below)
 
+-- a message that stands behind others was there before, or was posted when these were all
+abbrev pub IsAtItsEvent : Setting → World → List Event → Message → List Message → Type 0
+IsAtItsEvent s w events p before =
+    ((later : List Message) × (w.posted ≡ later ++ p ∷ before))
+    ⊎ ((first : List Event) × (rest : List Event) × (events ≡ first ++ Posts p ∷ rest) × ((after_all s w first).posted ≡ before))
+
+front_is : (q p : Message) (rest before : List Message) → ◌≡◌ {A = List Message} (q ∷ rest) (p ∷ before) → (q ≡ p) × (rest ≡ before)
+front_is q p rest before e = (cc, cc)
+
+at_event : (s : Setting) (w : World) (e : Event) (events : List Event) (p : Message) (later before : List Message)
+    → (after s w e).posted ≡ later ++ p ∷ before → IsAtItsEvent s w (e ∷ events) p before
+at_event s w (Begins t) events p later before h = inl (later, h)
+at_event s w (Grants m t) events p later before h = inl (later, h)
+at_event s w (Completes m t) events p later before h = inl (later, h)
+at_event s w (Refuses m t why) events p later before h = inl (later, h)
+at_event s w (Commits m t) events p later before h = inl (later, h)
+at_event s w (Aborts m t) events p later before h = inl (later, h)
+at_event s w (Forgets m t) events p later before h = inl (later, h)
+at_event s w (Posts q) events p [] before h =
+    let both = front_is q p w.posted before h in inr ([], events, ap (λ (x : Message). Posts x ∷ events) both.0, both.1)
+at_event s w (Posts q) events p (x ∷ later) before h = inl (later, (front_is q x w.posted (later ++ p ∷ before) h).1)
+
+pub posted_at : (s : Setting) (w : World) (events : List Event) (p : Message) (later before : List Message)
+    → (after_all s w events).posted ≡ later ++ p ∷ before → IsAtItsEvent s w events p before
+posted_at s w [] p later before h = inl (later, h)
+posted_at s w (e ∷ events) p later before h = elim (posted_at s (after s w e) events p later before h) [
+  | inl there ↦ at_event s w e events p there.0 before there.1
+  | inr it ↦ inr (e ∷ it.0, it.1, ap (λ (x : List Event). e ∷ x) it.2, it.3)
+]
+
+nothing_there : (p : Message) (later before : List Message) → ◌≡◌ {A = List Message} [] (later ++ p ∷ before) → ⊥
+nothing_there p [] before e = cc
+nothing_there p (x ∷ later) before e = cc
+
 pub looks_had_their_moment : LooksHadTheirMoment
-looks_had_their_moment s log image o events run m t bytes posted = elim (posted_when s (opened s log image) events (Looked m t bytes) posted) [
-  | inl none ↦ absurd none
+looks_had_their_moment s log image o events run m t bytes later before posted = elim (posted_at s (opened s log image) events (Looked m t bytes) later before posted) [
+  | inl none ↦ absurd (nothing_there (Looked m t bytes) none.0 before none.1)
   | inr it ↦
       let first = run_first s (opened s log image) it.0 (Posts (Looked m t bytes)) it.1 (subst (IsRun s (opened s log image)) it.2 run) in
       let flat_there = looks_are_flat s log image o it.0 first.0 m t bytes first.1 in
-      (it.0, it.1, it.2, flat_there.0, flat_there.1)
+      (it.0, it.1, it.2, it.3, flat_there.0, flat_there.1)
 ]
+
+-- ---- why a vote was refused
+
+-- a refusal that is in the log after an event was there before, or is appended by it
+pub refused_by : (s : Setting) (w : World) (e : Event) (m t : ℕ) (why : Reason) → In (At m (Refuse t why)) (after s w e).log
+    → In (At m (Refuse t why)) w.log ⊎ (e ≡ Refuses m t why)
+refused_by s w (Begins u) m t why h = inl h
+refused_by s w (Grants n u) m t why h = elim h [ inl is ↦ absurd (let e = one_record m n (Refuse t why) _ is in cc) | inr before ↦ inl before ]
+refused_by s w (Completes n u) m t why h = elim h [ inl is ↦ absurd (let e = one_record m n (Refuse t why) _ is in cc) | inr before ↦ inl before ]
+refused_by s w (Refuses n u other) m t why h = elim h [ inl is ↦ inr (sym (one m t why n u other is)) | inr before ↦ inl before ]
+  where
+    one : (m t : ℕ) (why : Reason) (n u : ℕ) (other : Reason) → At m (Refuse t why) ≡ At n (Refuse u other) → Refuses m t why ≡ Refuses n u other
+    one m t why n u other e = cc
+refused_by s w (Commits n u) m t why h = elim h [ inl is ↦ absurd (let e = one_record m n (Refuse t why) _ is in cc) | inr before ↦ inl before ]
+refused_by s w (Aborts n u) m t why h = elim h [ inl is ↦ absurd (let e = one_record m n (Refuse t why) _ is in cc) | inr before ↦ inl before ]
+refused_by s w (Forgets n u) m t why h = elim h [ inl is ↦ absurd (let e = one_record m n (Refuse t why) _ is in cc) | inr before ↦ inl before ]
+refused_by s w (Posts p) m t why h = inl h
+
+refused_when : (s : Setting) (w : World) (events : List Event) (m t : ℕ) (why : Reason) → In (At m (Refuse t why)) (after_all s w events).log
+    → In (At m (Refuse t why)) w.log ⊎ ((first : List Event) × (rest : List Event) × (events ≡ first ++ Refuses m t why ∷ rest))
+refused_when s w [] m t why h = inl h
+refused_when s w (e ∷ events) m t why h = elim (refused_when s (after s w e) events m t why h) [
+  | inl before ↦ elim (refused_by s w e m t why before) [ inl old ↦ inl old | inr now ↦ inr ([], events, ap (λ (x : Event). x ∷ events) now) ]
+  | inr it ↦ inr (e ∷ it.0, it.1, ap (λ (x : List Event). e ∷ x) it.2)
+]
+
+-- the first cell that differs is the same one where the compared cells hold the same
+differs_same : (wants : List Want) (f g : ℕ → ℕ) (item : ℕ) → ((want : Want) → In want wants → f want.cell ≡ g want.cell) → DiffersAt wants f item → DiffersAt wants g item
+differs_same [] f g item same h = h
+differs_same (want ∷ wants) f g item same h = elim h [
+  | inl here ↦ inl (λ e. here.0 (same want (inl refl) ∙ e), here.1)
+  | inr rest ↦ inr (sym (same want (inl refl)) ∙ rest.0, differs_same wants f g item (λ x k. same x (inr k)) rest.1)
+]
+
+module _ (s : Setting) (w : World) (sound : IsSound s w) (m t : ℕ) (begun : In t w.begun) (live : IsLive s t) where
+  reason_flat : (why : Reason) → HasReason s w m t why → HasFlatReason s w m t why
+  reason_flat (Forced floor) h = h
+  reason_flat (Held cut) h = h
+  reason_flat (Locked holder) h = h
+  reason_flat (Mismatch item) h =
+      differs_same ((s.mini t).wants m) (w.image m) (flat s w.points m) item
+      (λ want k. look_flat s w sound m t want.cell h.0 ((sound.faithful.minis t begun live).compared m want k)) h.1
+
+-- the events of a part of a run, in the run
+longer : (events first : List Event) (e : Event) (rest more : List Event) (f : Event) (after : List Event)
+    → events ≡ first ++ f ∷ after → first ≡ more ++ e ∷ rest → events ≡ more ++ e ∷ (rest ++ f ∷ after)
+longer events first e rest more f after split part =
+    split ∙ ap (λ (x : List Event). x ++ f ∷ after) part ∙ append_assoc more (e ∷ rest) (f ∷ after)
+
+pub refusals_had_their_reason : RefusalsHadTheirReason
+refusals_had_their_reason s log image o events run m t why posted = elim (posted_when s (opened s log image) events (Refused m t why) posted) [
+  | inl none ↦ absurd none
+  | inr it ↦ at_post it.0 it.1 it.2 (run_first s (opened s log image) it.0 (Posts (Refused m t why)) it.1 (subst (IsRun s (opened s log image)) it.2 run))
+]
+  where
+    opens : World
+    opens = opened s log image
+
+    at_post : (first rest : List Event) → events ≡ first ++ Posts (Refused m t why) ∷ rest
+        → IsRun s opens first × May s (after_all s opens first) (Posts (Refused m t why)) → WasCast s opens events m t why
+    at_post first rest split part = elim part.1.1 [
+      | inl entry ↦ elim (refused_when s opens first m t why entry) [
+        | inl found ↦ absurd (part.1.0.1.1 (live_found s log image o t (known_begun s log image o m (Refuse t why) found) part.1.0.1.0))
+        | inr at ↦
+            let before = run_first s opens at.0 (Refuses m t why) at.1 (subst (IsRun s opens) at.2 part.0) in
+            record {
+              first = at.0;
+              cast = Refuses m t why;
+              rest = at.1 ++ Posts (Refused m t why) ∷ rest;
+              split = longer events first (Refuses m t why) at.1 at.0 (Posts (Refused m t why)) rest split at.2;
+              kind = inl refl;
+              reason = reason_flat s (after_all s opens at.0) (always_sound s log image o at.0 before.0) m t before.1.0 part.1.0.1.0 why before.1.2;
+            }
+      ]
+      | inr now ↦ record {
+        first = first;
+        cast = Posts (Refused m t why);
+        rest = rest;
+        split = split;
+        kind = inr refl;
+        reason = reason_flat s (after_all s opens first) (always_sound s log image o first part.0) m t part.1.0.0 part.1.0.1.0 why now;
+      }
+    ]
+
+-- ---- what a run adds
+
+append_more : {A : Type 0} (u v w new more : List A) → v ≡ new ++ u → w ≡ more ++ v → w ≡ (more ++ new) ++ u
+append_more u v w new more first second = second ∙ ap (λ x. more ++ x) first ∙ sym (append_assoc more new u)
+
+added_trans : (u v w : World) → HasAdded u v → HasAdded v w → HasAdded u w
+added_trans u v w g h = record {
+  begun = (h.begun.0 ++ g.begun.0, append_more u.begun v.begun w.begun g.begun.0 h.begun.0 g.begun.1 h.begun.1);
+  log = (h.log.0 ++ g.log.0, append_more u.log v.log w.log g.log.0 h.log.0 g.log.1 h.log.1);
+  points = (h.points.0 ++ g.points.0, append_more u.points v.points w.points g.points.0 h.points.0 g.points.1 h.points.1);
+  posted = (h.posted.0 ++ g.posted.0, append_more u.posted v.posted w.posted g.posted.0 h.posted.0 g.posted.1 h.posted.1);
+}
+
+added_after : (s : Setting) (w : World) (e : Event) → HasAdded w (after s w e)
+added_after s w (Begins t) = record { begun = (t ∷ [], refl); log = ([], refl); points = ([], refl); posted = ([], refl) }
+added_after s w (Grants m t) = record { begun = ([], refl); log = (At m (Grant t) ∷ [], refl); points = ([], refl); posted = ([], refl) }
+added_after s w (Completes m t) = record { begun = ([], refl); log = (At m (Grant t) ∷ [], refl); points = (t ∷ [], refl); posted = ([], refl) }
+added_after s w (Refuses m t why) = record { begun = ([], refl); log = (At m (Refuse t why) ∷ [], refl); points = ([], refl); posted = ([], refl) }
+added_after s w (Commits m t) = record { begun = ([], refl); log = (At m (Commit t) ∷ [], refl); points = ([], refl); posted = ([], refl) }
+added_after s w (Aborts m t) = record { begun = ([], refl); log = (At m (Abort t) ∷ [], refl); points = ([], refl); posted = ([], refl) }
+added_after s w (Forgets m t) = record { begun = ([], refl); log = (At m (Forget t) ∷ [], refl); points = ([], refl); posted = ([], refl) }
+added_after s w (Posts p) = record { begun = ([], refl); log = ([], refl); points = ([], refl); posted = (p ∷ [], refl) }
+
+pub runs_only_add : RunsOnlyAdd
+runs_only_add s w [] = record { begun = ([], refl); log = ([], refl); points = ([], refl); posted = ([], refl) }
+runs_only_add s w (e ∷ events) = added_trans w (after s w e) (after_all s (after s w e) events) (added_after s w e) (runs_only_add s (after s w e) events)
+
+pub named_was_begun : NamedWasBegun
+named_was_begun s log image o events run = (always_sound s log image o events run).faithful.known
 
 pub images_are_flat : ImagesAreFlat
 images_are_flat s log image o events run m a =

@@ -53,7 +53,7 @@ not_fresh_after s w (Grants n u) may m t stale h =
     elim h [ inl is ↦ absurd (stale (subst (IsFresh s) (sym (one_grant t u (one_record m n (Grant t) (Grant u) is))) may.0.fresh)) | inr before ↦ before ]
 not_fresh_after s w (Completes n u) may m t stale h =
     elim h [ inl is ↦ absurd (stale (subst (IsFresh s) (sym (one_grant t u (one_record m n (Grant t) (Grant u) is))) may.0.fresh)) | inr before ↦ before ]
-not_fresh_after s w (Refuses n u) may m t stale h = elim h [ inl is ↦ absurd (let e = one_record m n (Grant t) _ is in cc) | inr before ↦ before ]
+not_fresh_after s w (Refuses n u why) may m t stale h = elim h [ inl is ↦ absurd (let e = one_record m n (Grant t) _ is in cc) | inr before ↦ before ]
 not_fresh_after s w (Commits n u) may m t stale h = elim h [ inl is ↦ absurd (let e = one_record m n (Grant t) _ is in cc) | inr before ↦ before ]
 not_fresh_after s w (Aborts n u) may m t stale h = elim h [ inl is ↦ absurd (let e = one_record m n (Grant t) _ is in cc) | inr before ↦ before ]
 not_fresh_after s w (Forgets n u) may m t stale h = elim h [ inl is ↦ absurd (let e = one_record m n (Grant t) _ is in cc) | inr before ↦ before ]

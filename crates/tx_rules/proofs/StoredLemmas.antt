@@ -305,8 +305,8 @@ module _ (s : Setting) (w : World) (f : IsFaithful s w) (i : IsStored s w.log w.
   stored_after (Posts p) may = i
   stored_after (Grants m t) may = grants m t may.0
   stored_after (Completes m t) may = completes m t may.0 may.1
-  stored_after (Refuses m t) may =
-      entry_kept m (Refuse t) (λ u e. absurd cc) (λ n u h o. undeciding m (Refuse t) (λ x e. absurd cc) (λ x e. absurd cc) n u o)
+  stored_after (Refuses m t why) may =
+      entry_kept m (Refuse t why) (λ u e. absurd cc) (λ n u h o. undeciding m (Refuse t why) (λ x e. absurd cc) (λ x e. absurd cc) n u o)
   stored_after (Forgets m t) may =
       entry_kept m (Forget t) (λ u e. absurd cc) (λ n u h o. undeciding m (Forget t) (λ x e. absurd cc) (λ x e. absurd cc) n u o)
   stored_after (Aborts m t) may = entry_kept m (Abort t) (λ u e. absurd cc) (aborts m t may.2)

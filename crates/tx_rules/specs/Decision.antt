@@ -1,12 +1,21 @@
 -- The logs of the memory nodes, and what they decide.
-use Rattle.std.specs.Prelude.{◌≡◌, ℕ, ◌≤◌, List, ◌⊎◌}
+use Rattle.std.specs.Prelude.{◌≡◌, ℕ, ◌≤◌, ◌<◌, List, ◌⊎◌}
 use Rattle.tx_rules.specs.Mini.{In, Setting, nodes_of}
 
--- what one entry of a log says of an identifier: it was granted; it was refused, or forced to abort; its writes were
--- applied; it was aborted; its record was forgotten. Where it has one participant, a grant is followed by its commit
+-- why a vote is not Granted: a floor of its coordinator stands at this identifier, which is its own or above it; this
+-- cut is held; the undecided record of this identifier is in the way; or the compare item at this place differs
+pub data Reason : Type 0 where
+  Forced : ℕ → Reason
+  Held : ℕ → Reason
+  Locked : ℕ → Reason
+  Mismatch : ℕ → Reason
+
+-- what one entry of a log says of an identifier: it was granted; it was refused, or forced to abort, and why; its
+-- writes were applied; it was aborted; its record was forgotten. Where it has one participant, a grant is followed by
+-- its commit
 pub data Record : Type 0 where
   Grant : ℕ → Record
-  Refuse : ℕ → Record
+  Refuse : ℕ → Reason → Record
   Commit : ℕ → Record
   Abort : ℕ → Record
   Forget : ℕ → Record
@@ -18,7 +27,7 @@ pub data Entry : Type 0 where
 -- the identifier that a record names
 abbrev pub named_in : Record → ℕ
 named_in (Grant t) = t
-named_in (Refuse t) = t
+named_in (Refuse t why) = t
 named_in (Commit t) = t
 named_in (Abort t) = t
 named_in (Forget t) = t
@@ -29,7 +38,7 @@ IsGranted log m t = In (At m (Grant t)) log
 
 -- it has voted on it with an entry, or was forced to abort it
 abbrev pub IsCast : List Entry → ℕ → ℕ → Type 0
-IsCast log m t = IsGranted log m t ⊎ In (At m (Refuse t)) log
+IsCast log m t = IsGranted log m t ⊎ ((why : Reason) × In (At m (Refuse t why)) log)
 
 -- the floor of the identifier's coordinator at the memory node is the identifier or above
 pub record IsPassed (s : Setting) (log : List Entry) (m t : ℕ) : Type 0 where
@@ -37,6 +46,12 @@ pub record IsPassed (s : Setting) (log : List Entry) (m t : ℕ) : Type 0 where
   pub cast : IsCast log m by
   pub same : s.coord by ≡ s.coord t
   pub above : t ≤ by
+
+-- the floor of the identifier's coordinator at the memory node may be this one, above it
+pub record IsBelow (s : Setting) (log : List Entry) (m t floor : ℕ) : Type 0 where
+  pub cast : IsCast log m floor
+  pub same : s.coord floor ≡ s.coord t
+  pub above : t < floor
 
 -- the memory node will never grant the identifier
 pub record IsRefused (s : Setting) (log : List Entry) (m t : ℕ) : Type 0 where

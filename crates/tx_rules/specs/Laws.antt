@@ -1,8 +1,8 @@
 -- What holds of every run of the protocol, from any opening.
-use Rattle.std.specs.Prelude.{◌≡◌, ℕ, List, [], ◌∷◌, ◌++◌, filter, ◌↔◌, ⊤}
-use Rattle.tx_rules.specs.Mini.{In, Memory, Setting, nodes_of, cells_of, IsLive, IsFresh, reads_of, Matches, AreApart, flat}
-use Rattle.tx_rules.specs.Decision.{Entry, At, Commit, Abort, Forget, IsOpen, IsCommitted, IsAborted, IsOver}
-use Rattle.tx_rules.specs.World.{Message, Granted, Looked, Refused, World, opened, IsOutdated, Promises, Event, Begins, Posts, May, IsRun, after_all}
+use Rattle.std.specs.Prelude.{◌≡◌, ℕ, List, [], ◌∷◌, ◌++◌, filter, ◌⊎◌, ◌↔◌, ⊤}
+use Rattle.tx_rules.specs.Mini.{In, Memory, Setting, nodes_of, cells_of, IsLive, IsFresh, reads_of, Matches, IsMismatch, AreApart, flat}
+use Rattle.tx_rules.specs.Decision.{Reason, Mismatch, Record, Refuse, Entry, At, named_in, Commit, Abort, Forget, IsOpen, IsCommitted, IsAborted, IsOver}
+use Rattle.tx_rules.specs.World.{Message, Granted, Looked, Refused, World, opened, IsOutdated, HasReason, Promises, Event, Begins, Refuses, Posts, May, IsRun, after_all}
 use Rattle.tx_rules.specs.Opening.{IsPending, IsOpening, IsFormatted}
 
 -- it holds at every moment of every run of every opening
@@ -18,6 +18,21 @@ FormattedOpens = (s : Setting) → IsFormatted s → IsOpening s [] s.start
 abbrev pub BeginningsAreNew : Type 0
 BeginningsAreNew = (s : Setting) (w : World) (events : List Event) → IsRun s w events → (first rest : List Event) (t : ℕ)
     → events ≡ first ++ Begins t ∷ rest → ¬ In t (after_all s w first).begun
+
+-- what an entry names was begun
+abbrev pub NamedWasBegun : Type 0
+NamedWasBegun = AlwaysHolds (λ s w. (m : ℕ) (r : Record) → In (At m r) w.log → In (named_in r) w.begun)
+
+-- one world has what the other has, behind what was added
+pub record HasAdded (w v : World) : Type 0 where
+  pub begun : (new : List ℕ) × (v.begun ≡ new ++ w.begun)
+  pub log : (new : List Entry) × (v.log ≡ new ++ w.log)
+  pub points : (new : List ℕ) × (v.points ≡ new ++ w.points)
+  pub posted : (new : List Message) × (v.posted ≡ new ++ w.posted)
+
+-- a run only adds: what is begun, logged and posted, and the points, grow at their front
+abbrev pub RunsOnlyAdd : Type 0
+RunsOnlyAdd = (s : Setting) (w : World) (events : List Event) → HasAdded w (after_all s w events)
 
 -- ---- decisions
 
@@ -48,11 +63,11 @@ PromisesAreKept = AlwaysHolds (λ s w. (message : Message) → In message w.post
 -- Granted votes of all participants make an identifier committed
 abbrev pub VotesCommit : Type 0
 VotesCommit = AlwaysHolds (λ s w. (t : ℕ)
-    → ((m : ℕ) → In m (nodes_of s t) → (bytes : List ℕ) × In (Granted m t bytes) w.posted) → IsCommitted s w.log t)
+    → ((m : ℕ) → In m (nodes_of s t) → (bytes : List (List ℕ)) × In (Granted m t bytes) w.posted) → IsCommitted s w.log t)
 
 -- after another vote of a participant on the newest identifier of its coordinator, it never commits
 abbrev pub RefusedNeverCommits : Type 0
-RefusedNeverCommits = AlwaysHolds (λ s w. (m t : ℕ) → In (Refused m t) w.posted → In m (nodes_of s t) → ¬ IsOutdated s w t
+RefusedNeverCommits = AlwaysHolds (λ s w. (m t : ℕ) (why : Reason) → In (Refused m t why) w.posted → In m (nodes_of s t) → ¬ IsOutdated s w t
     → (events : List Event) → IsRun s w events → ¬ IsCommitted s (after_all s w events).log t)
 
 -- ---- locks
@@ -115,21 +130,23 @@ OpenPointsTrade = AlwaysHolds (λ s w. (t u : ℕ) → IsFresh s t → IsFresh s
 
 -- the bytes of a Granted vote are those of the flat memory just before the point
 abbrev pub ReadsAreFlat : Type 0
-ReadsAreFlat = AlwaysHolds (λ s w. (m t : ℕ) (bytes : List ℕ) → In (Granted m t bytes) w.posted → In m (nodes_of s t)
+ReadsAreFlat = AlwaysHolds (λ s w. (m t : ℕ) (bytes : List (List ℕ)) → In (Granted m t bytes) w.posted → In m (nodes_of s t)
     → (later before : List ℕ) → w.points ≡ later ++ t ∷ before → bytes ≡ reads_of s t m (flat s before m))
 
 -- those of a Granted vote without an entry are those of the flat memory at the moment when it is posted, and the
 -- minitransaction matches that memory
 abbrev pub LooksAreFlat : Type 0
-LooksAreFlat = AlwaysHolds (λ s w. (m t : ℕ) (bytes : List ℕ) → May s w (Posts (Looked m t bytes))
+LooksAreFlat = AlwaysHolds (λ s w. (m t : ℕ) (bytes : List (List ℕ)) → May s w (Posts (Looked m t bytes))
     → (bytes ≡ reads_of s t m (flat s w.points m)) × Matches s t m (flat s w.points m))
 
--- so each that was posted has such a moment in the run
+-- so each that was posted has this moment in the run: the one at which it was posted itself, behind the same messages
 abbrev pub LooksHadTheirMoment : Type 0
 LooksHadTheirMoment = (s : Setting) (log : List Entry) (image : Memory) → IsOpening s log image
     → (events : List Event) → IsRun s (opened s log image) events
-    → (m t : ℕ) (bytes : List ℕ) → In (Looked m t bytes) (after_all s (opened s log image) events).posted
+    → (m t : ℕ) (bytes : List (List ℕ)) (later before : List Message)
+    → (after_all s (opened s log image) events).posted ≡ later ++ Looked m t bytes ∷ before
     → (first rest : List Event) × (events ≡ first ++ Posts (Looked m t bytes) ∷ rest)
+    × ((after_all s (opened s log image) first).posted ≡ before)
     × (bytes ≡ reads_of s t m (flat s (after_all s (opened s log image) first).points m))
     × Matches s t m (flat s (after_all s (opened s log image) first).points m)
 
@@ -143,3 +160,27 @@ ImagesAreFlat = AlwaysHolds (λ s w. (m a : ℕ)
 -- so a cell that no undecided record touches is what the memory node holds
 abbrev pub UnlockedIsFlat : Type 0
 UnlockedIsFlat = AlwaysHolds (λ s w. (m a : ℕ) → ((t : ℕ) → IsOpen w.log m t → ¬ In a (cells_of s t m)) → w.image m a ≡ flat s w.points m a)
+
+-- ---- refusals
+
+-- the reason of a vote that is not Granted, as the flat memory tells it: a mismatch is one in that memory
+abbrev pub HasFlatReason : Setting → World → ℕ → ℕ → Reason → Type 0
+HasFlatReason s w m t (Mismatch item) = IsMismatch s t m (flat s w.points m) item
+HasFlatReason s w m t why = HasReason s w m t why
+
+-- in these events the vote was cast, with its entry or by the message alone, when its reason held
+pub record WasCast (s : Setting) (w : World) (events : List Event) (m t : ℕ) (why : Reason) : Type 0 where
+  pub first : List Event
+  pub cast : Event
+  pub rest : List Event
+  pub split : events ≡ first ++ cast ∷ rest
+  pub kind : (cast ≡ Refuses m t why) ⊎ (cast ≡ Posts (Refused m t why))
+  pub reason : HasFlatReason s (after_all s w first) m t why
+
+-- each posted vote that is not Granted was cast in the run, and its reason held then: so one that is sent again tells
+-- why it was refused at first
+abbrev pub RefusalsHadTheirReason : Type 0
+RefusalsHadTheirReason = (s : Setting) (log : List Entry) (image : Memory) → IsOpening s log image
+    → (events : List Event) → IsRun s (opened s log image) events
+    → (m t : ℕ) (why : Reason) → In (Refused m t why) (after_all s (opened s log image) events).posted
+    → WasCast s (opened s log image) events m t why

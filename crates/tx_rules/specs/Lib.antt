@@ -1,3 +1,4 @@
+pub mod Lists
 pub mod Mini
 pub mod Decision
 pub mod World

@@ -1,5 +1,5 @@
 //! Laws of the transaction protocol: each holds of every run of its rules.
-ghost use Rattle.tx_rules.specs.Laws.{FormattedOpens, BeginningsAreNew, DecisionsExclude, DecisionsStay, LoggedDecisionsAgree, ForgottenIsOver, PromisesAreKept, VotesCommit, RefusedNeverCommits, LocksAreApart, LocksStayApart, PointsAreTheCommitted, PointsMatch, HistoryIsFlat, OpenPointsTrade, ReadsAreFlat, LooksAreFlat, LooksHadTheirMoment, ImagesAreFlat, UnlockedIsFlat};
+ghost use Rattle.tx_rules.specs.Laws.{FormattedOpens, BeginningsAreNew, NamedWasBegun, RunsOnlyAdd, DecisionsExclude, DecisionsStay, LoggedDecisionsAgree, ForgottenIsOver, PromisesAreKept, VotesCommit, RefusedNeverCommits, LocksAreApart, LocksStayApart, PointsAreTheCommitted, PointsMatch, HistoryIsFlat, OpenPointsTrade, ReadsAreFlat, LooksAreFlat, LooksHadTheirMoment, ImagesAreFlat, UnlockedIsFlat, RefusalsHadTheirReason};
 
 /// A formatted cluster opens.
 pub fn formatted_opens()
@@ -9,6 +9,16 @@ pub fn formatted_opens()
 /// An identifier begins once.
 pub fn beginnings_are_new()
     ensures { BeginningsAreNew }
+{}
+
+/// What an entry names was begun.
+pub fn named_was_begun()
+    ensures { NamedWasBegun }
+{}
+
+/// What is begun, logged and posted, and the points, only grow at their front.
+pub fn runs_only_add()
+    ensures { RunsOnlyAdd }
 {}
 
 /// Committed and aborted exclude each other.
@@ -86,7 +96,7 @@ pub fn looks_are_flat()
     ensures { LooksAreFlat }
 {}
 
-/// Each posted Granted vote without an entry has a moment in the run at which its bytes were the flat memory's.
+/// Each posted Granted vote without an entry has the bytes of the flat memory at the moment when it was posted itself.
 pub fn looks_had_their_moment()
     ensures { LooksHadTheirMoment }
 {}
@@ -99,4 +109,9 @@ pub fn images_are_flat()
 /// A cell that no undecided record touches is what its memory node holds.
 pub fn unlocked_is_flat()
     ensures { UnlockedIsFlat }
+{}
+
+/// Each vote that is not Granted was cast in the run when its reason held, in the flat memory where it is a mismatch.
+pub fn refusals_had_their_reason()
+    ensures { RefusalsHadTheirReason }
 {}

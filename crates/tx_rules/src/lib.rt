@@ -11,6 +11,7 @@ mod laws;
 pub use laws::{
     beginnings_are_new, decisions_exclude, decisions_stay, forgotten_is_over, formatted_opens,
     history_is_flat, images_are_flat, locks_are_apart, locks_stay_apart, logged_decisions_agree,
-    looks_are_flat, open_points_trade, points_are_the_committed, points_match, promises_are_kept,
-    reads_are_flat, refused_never_commits, unlocked_is_flat, votes_commit,
+    looks_are_flat, named_was_begun, open_points_trade, points_are_the_committed, points_match,
+    promises_are_kept, reads_are_flat, refusals_had_their_reason, refused_never_commits,
+    runs_only_add, unlocked_is_flat, votes_commit,
 };

@@ -1,4 +1,4 @@
--- Tests on lists of numbers.
+-- Tests of lists of numbers.
 use Rattle.std.specs.Prelude.{ℕ, ◌==◌, Bool, true, false, ◌&&◌, ◌||◌, List, [], ◌∷◌}
 
 -- whether a number stands in the list
