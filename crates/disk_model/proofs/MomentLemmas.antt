@@ -54,6 +54,24 @@ weaker_moments P Q before now weaker leaves = record {
   each = all_weaker P Q leaves.since weaker leaves.each;
 }
 
+-- what a crash leaves at the end
+pub left_last : (P : Content → Type 0) (before now : History) → LeavesOnly before now P → (image : Content) → MayLeave now.now image → P image
+left_last P before now leaves = last_of leaves.since leaves.went_on leaves.each
+  where
+    last_of : (since : List Snapshot) → moments now ≡ since ++ moments before → AllLeave P since → (image : Content) → MayLeave now.now image → P image
+    last_of [] went each image left = leaves.at_first image (subst (λ (s : Snapshot). MayLeave s image) (first_of went) left)
+      where
+        first_of : moments now ≡ moments before → now.now ≡ before.now
+        first_of same = cc
+    last_of (snapshot ∷ since) went each image left = each.0 image (subst (λ (s : Snapshot). MayLeave s image) (first_of went) left)
+      where
+        first_of : moments now ≡ snapshot ∷ (since ++ moments before) → now.now ≡ snapshot
+        first_of same = cc
+
+-- and what the disk holds there
+pub holds_last : (P : Content → Type 0) (before now : History) → LeavesOnly before now P → P now.now.content
+holds_last P before now leaves = left_last P before now leaves now.now.content record { same = λ place clear. refl }
+
 -- outside one range, where nothing else is pending
 pub outside_one : (at n place : ℕ) → (place < at) ⊎ (at + n ≤ place) → is_pending ((at, n) ∷ []) place ≡ false
 outside_one at n place out = ap (λ b. b || false) (covered_not at n place out)

@@ -6,16 +6,17 @@ use Rattle.disk_model.specs.declared.choice.Choice.TheVariants.{Old, New, Fill}
 use Rattle.disk_model.specs.declared.change.Change.{Change}
 use Rattle.disk_model.specs.declared.change.Change.TheVariants.{Wrote, Missed, Synced, Restarted}
 use Rattle.disk_model.specs.declared.overwritten.Overwritten.{Overwritten}
-use Rattle.disk_model.specs.Crash.{Content, Holds, covers, is_pending, put}
-use Rattle.disk_model.specs.Plan.{Course, changed, course_after, image_of}
-use Rattle.disk_model.specs.Store.{ranges_of, undone, taken, IsKept}
+use Rattle.disk_model.specs.Crash.{Content, History, Holds, moments, covers, is_pending, put}
+use Rattle.disk_model.specs.Plan.{changed, history_after}
+use Rattle.disk_model.specs.Restart.{image_of}
+use Rattle.disk_model.specs.Store.{ranges_of, undone, image_by, IsKept}
 use Rattle.disk_model.proofs.ContentLemmas.{put_alike, put_back, put_same, put_in, put_out, cases_covers, covered, covered_not}
 
 -- one change more, at the end
-pub course_more : (course : Course) (changes : List Change) (change : Change) → course_after course (changes ++ change ∷ []) ≡ changed (course_after course changes) change
-unfolding course_after
-course_more course [] change = refl
-course_more course (first ∷ changes) change = course_more (changed course first) changes change
+pub history_more : (history : History) (changes : List Change) (change : Change) → history_after history (changes ++ change ∷ []) ≡ changed (history_after history changes) change
+unfolding history_after
+history_more history [] change = refl
+history_more history (first ∷ changes) change = history_more (changed history first) changes change
 
 -- what is put back onto contents that are alike is alike
 pub undone_alike : (content other : Content) (os : List Overwritten) → ((place : ℕ) → content place ≡ other place) → (place : ℕ) → undone content os place ≡ undone other os place
@@ -40,11 +41,11 @@ pending_more (p ∷ os) o place =
     ap (λ b. covers p.at (length p.bytes.items) place || b) (pending_more os o place)
     ∙ or_moves (covers p.at (length p.bytes.items) place) (covers o.at (length o.bytes.items) place) (is_pending (ranges_of os) place)
 
-module _ (content : Content) (os : List Overwritten) (course : Course) (kept : IsKept content os course) where
+module _ (content : Content) (os : List Overwritten) (history : History) (kept : IsKept content os history) where
   pub kept_write : (next : Content) (o : Overwritten) (at : ℕ) (bytes : List ℕ) → o.at ≡ at → length o.bytes.items ≡ length bytes → Holds content at o.bytes.items
-      → ((place : ℕ) → next place ≡ put content at bytes place) → IsKept next (os ++ o ∷ []) (changed course (Wrote at bytes))
+      → ((place : ℕ) → next place ≡ put content at bytes place) → IsKept next (os ++ o ∷ []) (changed history (Wrote at bytes))
   kept_write next o at bytes there same holds wrote = record {
-    now = λ place. wrote place ∙ put_alike content course.history.now.content at bytes kept.now place;
+    now = λ place. wrote place ∙ put_alike content history.now.content at bytes kept.now place;
     synced = λ place.
         undone_more next os o place
         ∙ undone_alike (put next o.at o.bytes.items) content os (λ p.
@@ -52,12 +53,12 @@ module _ (content : Content) (os : List Overwritten) (course : Course) (kept : I
         ∙ kept.synced place;
     pending = λ place.
         pending_more os o place ∙ ap (λ b. covers o.at (length o.bytes.items) place || b) (kept.pending place)
-        ∙ ap (λ (a : ℕ). covers a (length o.bytes.items) place || is_pending course.history.now.pending place) there
-        ∙ ap (λ (n : ℕ). covers at n place || is_pending course.history.now.pending place) same;
+        ∙ ap (λ (a : ℕ). covers a (length o.bytes.items) place || is_pending history.now.pending place) there
+        ∙ ap (λ (n : ℕ). covers at n place || is_pending history.now.pending place) same;
   }
 
   pub kept_miss : (o : Overwritten) (at n : ℕ) → o.at ≡ at → length o.bytes.items ≡ n → Holds content at o.bytes.items
-      → IsKept content (os ++ o ∷ []) (changed course (Missed at n))
+      → IsKept content (os ++ o ∷ []) (changed history (Missed at n))
   kept_miss o at n there same holds = record {
     now = kept.now;
     synced = λ place.
@@ -67,22 +68,22 @@ module _ (content : Content) (os : List Overwritten) (course : Course) (kept : I
         ∙ kept.synced place;
     pending = λ place.
         pending_more os o place ∙ ap (λ b. covers o.at (length o.bytes.items) place || b) (kept.pending place)
-        ∙ ap (λ (a : ℕ). covers a (length o.bytes.items) place || is_pending course.history.now.pending place) there
-        ∙ ap (λ (m : ℕ). covers at m place || is_pending course.history.now.pending place) same;
+        ∙ ap (λ (a : ℕ). covers a (length o.bytes.items) place || is_pending history.now.pending place) there
+        ∙ ap (λ (m : ℕ). covers at m place || is_pending history.now.pending place) same;
   }
 
-  pub kept_sync : IsKept content [] (changed course Synced)
+  pub kept_sync : IsKept content [] (changed history Synced)
   kept_sync = record { now = kept.now; synced = kept.now; pending = λ place. refl }
 
-  pub kept_restart : (choice : Choice) (next : Content) → ((place : ℕ) → next place ≡ image_of choice course place) → IsKept next [] (changed course (Restarted choice))
+  pub kept_restart : (choice : Choice) (next : Content) → ((place : ℕ) → next place ≡ image_of choice history place) → IsKept next [] (changed history (Restarted choice))
   kept_restart choice next taken = record { now = taken; synced = taken; pending = λ place. refl }
 
   -- what a restart takes is the image that the choice names
-  pub taken_is : (choice : Choice) (place : ℕ) → taken choice content os place ≡ image_of choice course place
-  taken_is Old place = kept.synced place
-  taken_is New place = kept.now place
-  taken_is (Fill byte) place =
-      ap (λ b. cond b byte (content place)) (kept.pending place) ∙ ap (λ x. cond (is_pending course.history.now.pending place) byte x) (kept.now place)
+  pub image_is : (choice : Choice) (place : ℕ) → image_by choice content os place ≡ image_of choice history place
+  image_is Old place = kept.synced place
+  image_is New place = kept.now place
+  image_is (Fill byte) place =
+      ap (λ b. cond b byte (content place)) (kept.pending place) ∙ ap (λ x. cond (is_pending history.now.pending place) byte x) (kept.now place)
 
 -- one range more has this byte
 pub filled_more : (content next : Content) (os : List Overwritten) (o : Overwritten) (bytes : List ℕ) (byte : ℕ) → length bytes ≡ length o.bytes.items

@@ -47,7 +47,10 @@ put content at bytes place = if covers at (length bytes) place then slice_index 
 
 -- after a write
 abbrev pub written : Snapshot → ℕ → List ℕ → Snapshot
-written snapshot at bytes = record { content = put snapshot.content at bytes; pending = (at, length bytes) ∷ snapshot.pending }
+written snapshot at bytes = record {
+  content = put snapshot.content at bytes;
+  pending = (at, length bytes) ∷ snapshot.pending;
+}
 
 -- a range is pending, of which no byte arrived
 abbrev pub touched : Snapshot → ℕ → ℕ → Snapshot
@@ -63,11 +66,8 @@ LeavesNoMore snapshot other = (image : Content) → MayLeave snapshot image → 
 
 -- after a call that failed: nothing changed, or one moment passed in which a crash leaves no more than this bound
 abbrev pub IsWithin : Snapshot → History → History → Type 0
-IsWithin bound before now = (now ≡ before) ⊎ ((snapshot : Snapshot) × LeavesNoMore snapshot bound × (now ≡ advance before snapshot))
-
--- after a restart: one of the images that a crash might leave is there, and nothing is pending
-abbrev pub IsRestarted : History → History → Type 0
-IsRestarted before now = (image : Content) × MayLeave before.now image × (now ≡ advance before (settled image))
+IsWithin bound before now = (now ≡ before)
+    ⊎ ((snapshot : Snapshot) × LeavesNoMore snapshot bound × (now ≡ advance before snapshot))
 
 -- a crash at each of these moments leaves what has P
 abbrev pub AllLeave : (Content → Type 0) → List Snapshot → Type 0

@@ -1,8 +1,11 @@
-pub mod Cause
+pub mod Calls
 pub mod Crash
+pub mod Failing
 pub mod Frames
+pub mod Health
 pub mod LogBytes
 pub mod Plan
+pub mod Restart
 pub mod Shelf
 pub mod Stop
 pub mod Store

@@ -71,7 +71,8 @@ impl Frames {
     /// Puts these bytes into one frame.
     fn write_piece(&mut self, number: u64, offset: usize, from: &[u8]) -> Result<(), NoMemory>
         requires { offset + length from.now ≤ 4096 }
-        ensures { OnOk result ((place : ℕ) → bytes_of self.new place ≡ put (bytes_of self.old) (4096 * number + offset) from.now place) }
+        ensures { OnOk result ((place : ℕ)
+            → bytes_of self.new place ≡ put (bytes_of self.old) (4096 * number + offset) from.now place) }
     {
         let mut frame = match self.frames.remove(&number) {
             Some(frame) => frame,

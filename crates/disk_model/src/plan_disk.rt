@@ -1,12 +1,15 @@
-ghost use Rattle.std.specs.Prelude.{◌≡◌, ◌+◌, ◌^◌, ◌<◌, ◌↔◌, ◌∷◌, [], ⊤, false, true, length, Contains, is_ok, IsTrue, IsErr, OnOk, OnErr};
-ghost use Rattle.disk_model.specs.Crash.{Holds, IsWithin, IsRestarted, advance, written, touched, settled};
-ghost use Rattle.disk_model.specs.Cause.{IsCounted};
-ghost use Rattle.disk_model.specs.Plan.{course_of, next_count, IsPlanned};
+ghost use Rattle.std.specs.Prelude.{◌≡◌, ◌+◌, ◌^◌, ◌<◌, ◌↔◌, ◌∷◌, [], false, true, length, Contains, is_ok, IsTrue, IsErr, OnOk, OnErr};
+ghost use Rattle.std.specs.List.Sorted.{IsPermutation};
+ghost use Rattle.disk_model.specs.Calls.{IsRead, IsWrite, IsSync, IsRestart};
+ghost use Rattle.disk_model.specs.Failing.{failing_of};
+ghost use Rattle.disk_model.specs.Health.{next_count};
+ghost use Rattle.disk_model.specs.Plan.{plan_tells, plan_history, plan_health, IsPlanned};
 
 use crate::Calls;
 use crate::change::Change;
 use crate::choice::Choice;
 use crate::disk::Disk;
+use crate::failing::Failing;
 use crate::store::Store;
 use sfs_base::{Failed, NoMemory};
 use std::alloc::Global;
@@ -19,14 +22,17 @@ use std::marker::Model;
 #[derive(Debug, Drop)]
 pub struct PlanDisk {
     store: Store,
-    failing: Calls,
+    failing: Failing,
     calls: u64,
     faults: u64,
     starved: bool,
+    /// No call failed since it was made, or restarted.
+    usable: bool,
 }
 
 impl Model for PlanDisk {
     ghost use Rattle.std.specs.Prelude.{◌≡◌, false};
+    ghost use Rattle.disk_model.specs.Failing.{failing_of};
     ghost use Rattle.disk_model.specs.Plan.{Plan};
     ghost use Rattle.disk_model.specs.Store.{IsStore};
 
@@ -34,10 +40,11 @@ impl Model for PlanDisk {
 
     ghost view = { λ d. record {
       changes = d.store.changes.items;
-      failing = d.failing;
+      failing = failing_of d.failing;
       calls = d.calls;
       faults = d.faults;
       is_starved = d.starved;
+      is_usable = d.usable;
     } };
 
     ghost invariant = { λ d. d.starved ≡ false → IsStore d.store };
@@ -46,14 +53,23 @@ impl Model for PlanDisk {
 impl PlanDisk {
     /// A disk that was never written, whose calls with a number in `failing` fail. It takes no memory.
     pub fn new(alloc: Global, failing: Calls) -> PlanDisk
-        ensures { result ≡ record { changes = []; failing = failing; calls = 0; faults = 0; is_starved = false } }
+        ensures failing { IsPermutation failing result.failing }
+        ensures rest { result ≡ record {
+          changes = [];
+          failing = result.failing;
+          calls = 0;
+          faults = 0;
+          is_starved = false;
+          is_usable = true;
+        } }
     {
         PlanDisk {
             store: Store::new(alloc),
-            failing,
+            failing: Failing::new(failing),
             calls: 0,
             faults: 0,
             starved: false,
+            usable: true,
         }
     }
 
@@ -70,15 +86,20 @@ impl PlanDisk {
     {
         self.faults
     }
-}
 
-/// Counts a call, and says whether the list names it.
-fn is_named(failing: &Calls, calls: &mut u64) -> bool
-    ensures count { calls.new ≡ next_count calls.old }
-    ensures named { IsTrue result ↔ Contains failing.now (next_count calls.old) }
-{
-    *calls = calls.saturating_add(1);
-    failing.as_slice().contains(calls)
+    /// How many calls were made so far; it stands still at the last value of a u64.
+    pub fn calls(&self) -> u64
+        ensures { result ≡ self.now.calls }
+    {
+        self.calls
+    }
+
+    /// From now on no call fails by the list. It takes no memory.
+    pub fn fail_no_more(&mut self)
+        ensures { self.new ≡ record self.old { failing = [] } }
+    {
+        self.failing.clear();
+    }
 }
 
 /// What a call answers that the list lets fail, and that found memory or found none.
@@ -94,46 +115,44 @@ fn fail(done: Result<(), NoMemory>, faults: &mut u64, starved: &mut bool) -> Res
     Err(Failed)
 }
 
-/// What a call answers that found memory or found none.
-fn finish(done: Result<(), NoMemory>, starved: &mut bool) -> Result<(), Failed>
+/// What a call answers that found memory or found none, on a disk that may be used then if `usable` says so.
+fn finish(done: Result<(), NoMemory>, starved: &mut bool, usable: &mut bool) -> Result<(), Failed>
     ensures same { is_ok result ≡ is_ok done }
-    ensures ok { OnOk done (starved.new ≡ starved.old) }
-    ensures starved { OnErr done (starved.new ≡ true) }
+    ensures ok { OnOk done ((starved.new ≡ starved.old) × (usable.new ≡ usable.old)) }
+    ensures starved { OnErr done ((starved.new ≡ true) × (usable.new ≡ false)) }
 {
     match done {
         Ok(()) => Ok(()),
         Err(NoMemory) => {
             *starved = true;
+            *usable = false;
             Err(Failed)
         }
     }
 }
 
 impl Disk for PlanDisk {
-    ghost tells = { λ _. ⊤ };
+    ghost tells = { plan_tells };
 
-    ghost history = { λ d. (course_of d.changes).history };
+    ghost history = { plan_history };
 
-    ghost faults = { λ d. d.faults };
-
-    ghost is_starved = { λ d. d.is_starved };
+    ghost health = { plan_health };
 
     /// Beside what each disk owes: which calls fail, and what the disk is afterwards. It takes no memory.
     fn read(&mut self, at: u64, into: &mut [u8]) -> Result<(), Failed>
         requires { at + length into.old < 2 ^ 64 }
-        ensures cause { IsCounted self.old.faults self.new.faults self.old.is_starved self.new.is_starved result }
-        ensures tells { ⊤ → ⊤ }
-        ensures given { OnOk result (⊤ → Holds (course_of self.old.changes).history.now.content at into.new) }
-        ensures kept { ⊤ → (course_of self.new.changes).history ≡ (course_of self.old.changes).history }
+        ensures disk { IsRead plan_tells plan_history plan_health self.old self.new at into.new result }
 
-        ensures planned { IsPlanned self.old self.new [] [] result }
+        ensures planned { IsPlanned self.old self.new [] [] self.old.is_usable result }
         ensures fed { self.new.is_starved ≡ self.old.is_starved }
     {
         if self.starved {
+            self.usable = false;
             return Err(Failed);
         }
-        if is_named(&self.failing, &mut self.calls) {
+        if self.failing.next_fails(&mut self.calls) {
             self.faults = self.faults.saturating_add(1);
+            self.usable = false;
             return Err(Failed);
         }
         self.store.read(at, into);
@@ -143,63 +162,61 @@ impl Disk for PlanDisk {
     /// Beside what each disk owes: which calls fail, and what the disk is afterwards.
     fn write(&mut self, at: u64, from: &[u8]) -> Result<(), Failed>
         requires { at + length from.now < 2 ^ 64 }
-        ensures cause { IsCounted self.old.faults self.new.faults self.old.is_starved self.new.is_starved result }
-        ensures tells { ⊤ → ⊤ }
-        ensures ok { OnOk result (⊤ → (course_of self.new.changes).history ≡ advance (course_of self.old.changes).history (written (course_of self.old.changes).history.now at from.now)) }
-        ensures err { OnErr result (⊤ → IsWithin (touched (course_of self.old.changes).history.now at (length from.now)) (course_of self.old.changes).history (course_of self.new.changes).history) }
+        ensures disk { IsWrite plan_tells plan_history plan_health self.old self.new at from.now result }
 
-        ensures planned { IsPlanned self.old self.new (Change.Wrote at from.now ∷ []) (Change.Missed at (length from.now) ∷ []) result }
+        ensures planned { IsPlanned self.old self.new
+            (Change.Wrote at from.now ∷ []) (Change.Missed at (length from.now) ∷ []) self.old.is_usable result }
     {
         if self.starved {
+            self.usable = false;
             return Err(Failed);
         }
-        if is_named(&self.failing, &mut self.calls) {
+        if self.failing.next_fails(&mut self.calls) {
+            self.usable = false;
             let done = self.store.miss(at, from.len());
             return fail(done, &mut self.faults, &mut self.starved);
         }
         let done = self.store.write(at, from);
-        finish(done, &mut self.starved)
+        finish(done, &mut self.starved, &mut self.usable)
     }
 
     /// Beside what each disk owes: which calls fail, and what the disk is afterwards.
     fn sync(&mut self) -> Result<(), Failed>
-        ensures cause { IsCounted self.old.faults self.new.faults self.old.is_starved self.new.is_starved result }
-        ensures tells { ⊤ → ⊤ }
-        ensures ok { OnOk result (⊤ → (course_of self.new.changes).history ≡ advance (course_of self.old.changes).history (settled (course_of self.old.changes).history.now.content)) }
-        ensures err { OnErr result (⊤ → IsWithin (course_of self.old.changes).history.now (course_of self.old.changes).history (course_of self.new.changes).history) }
+        ensures disk { IsSync plan_tells plan_history plan_health self.old self.new result }
 
-        ensures planned { IsPlanned self.old self.new (Change.Synced ∷ []) [] result }
+        ensures planned { IsPlanned self.old self.new (Change.Synced ∷ []) [] self.old.is_usable result }
     {
         if self.starved {
+            self.usable = false;
             return Err(Failed);
         }
-        if is_named(&self.failing, &mut self.calls) {
+        if self.failing.next_fails(&mut self.calls) {
             self.faults = self.faults.saturating_add(1);
+            self.usable = false;
             return Err(Failed);
         }
         let done = self.store.sync();
-        finish(done, &mut self.starved)
+        finish(done, &mut self.starved, &mut self.usable)
     }
 
-    /// Beside what each disk owes: which calls fail, and what the disk is afterwards. The image is the
-    /// one that `choice` names.
+    /// Beside what each disk owes: which calls fail, and what the disk is afterwards.
     fn restart(&mut self, choice: Choice) -> Result<(), Failed>
-        ensures cause { IsCounted self.old.faults self.new.faults self.old.is_starved self.new.is_starved result }
-        ensures tells { ⊤ → ⊤ }
-        ensures ok { OnOk result (⊤ → IsRestarted (course_of self.old.changes).history (course_of self.new.changes).history) }
-        ensures err { OnErr result (⊤ → IsWithin (course_of self.old.changes).history.now (course_of self.old.changes).history (course_of self.new.changes).history) }
+        ensures disk { IsRestart plan_tells plan_history plan_health self.old self.new choice result }
 
-        ensures planned { IsPlanned self.old self.new (Change.Restarted choice ∷ []) [] result }
+        ensures planned { IsPlanned self.old self.new (Change.Restarted choice ∷ []) [] true result }
     {
         if self.starved {
+            self.usable = false;
             return Err(Failed);
         }
-        if is_named(&self.failing, &mut self.calls) {
+        if self.failing.next_fails(&mut self.calls) {
             self.faults = self.faults.saturating_add(1);
+            self.usable = false;
             return Err(Failed);
         }
+        self.usable = true;
         let done = self.store.restart(choice);
-        finish(done, &mut self.starved)
+        finish(done, &mut self.starved, &mut self.usable)
     }
 
     fn starved(&self) -> bool {

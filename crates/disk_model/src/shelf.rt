@@ -1,5 +1,6 @@
-ghost use Rattle.std.specs.Prelude.{◌≡◌, ℕ, [], Bool, true, false, Option, ◌==◌, ◌||◌, if◌then◌else◌, IfOk, OnOk, OnErr};
+ghost use Rattle.std.specs.Prelude.{◌≡◌, ℕ, Bool, true, false, Option, Some, ◌==◌, ◌||◌, if◌then◌else◌, IfOk, OnOk, OnErr};
 ghost use Rattle.sfs_base.specs.Fault.{HasCause};
+ghost use Rattle.disk_model.specs.Shelf.{IsAtRest};
 
 use crate::disk::Disk;
 use sfs_base::Failed;
@@ -21,23 +22,28 @@ pub trait Shelf {
     /// How many calls failed so far; it stands still at the last value of a u64.
     ghost faults: { Self → ℕ };
 
-    /// Takes the disk of this number away just as it lies there. Nothing is pending on it, which is the
-    /// caller's condition where the shelf tells its disks. [`Failed`]: the shelf could not, its count of
-    /// faults rose, and all disks lie where they did.
+    /// Takes the disk of this number away just as it lies there. Nothing is pending on it and it may be
+    /// used, which is the caller's condition where the shelf tells its disks. A shelf that tells has disks
+    /// that tell. [`Failed`]: the shelf could not, its count of faults rose, and all disks lie where they
+    /// did.
     fn take(&mut self, k: u32) -> Result<Self::D, Failed>
-        requires { tells self.old → (disk : Self.D) → disks self.old k ≡ Some disk → (Self.D.history disk).now.pending ≡ [] }
+        requires { tells self.old → (disk : Self.D) → disks self.old k ≡ Some disk
+            → IsAtRest Self.D.history Self.D.health disk }
         ensures cause { HasCause (faults self.old) (faults self.new) result }
         ensures tells { tells self.old → tells self.new }
         ensures given { IfOk result (λ disk. tells self.old → disks self.old k ≡ Some disk) }
-        ensures settled { IfOk result (λ disk. Self.D.tells disk → (Self.D.history disk).now.pending ≡ []) }
-        ensures rest { OnOk result (tells self.old → (j : ℕ) → disks self.new j ≡ (if j == k then None else disks self.old j)) }
+        ensures told { IfOk result (λ disk. tells self.old → Self.D.tells disk) }
+        ensures rests { IfOk result (λ disk. Self.D.tells disk → IsAtRest Self.D.history Self.D.health disk) }
+        ensures rest { OnOk result (tells self.old
+            → (j : ℕ) → disks self.new j ≡ (if j == k then None else disks self.old j)) }
         ensures taken { OnOk result ((j : ℕ) → is_taken self.new j ≡ (j == k || is_taken self.old j)) }
         ensures kept { OnErr result (tells self.old → (j : ℕ) → disks self.new j ≡ disks self.old j) }
         ensures left { OnErr result ((j : ℕ) → is_taken self.new j ≡ is_taken self.old j) };
 
     /// Lays a disk that was taken back at its number. It takes no memory.
     fn give(&mut self, k: u32, disk: Self::D)
-        requires { is_taken self.old k ≡ true }
+        requires taken { is_taken self.old k ≡ true }
+        requires told { tells self.old → Self.D.tells disk }
         ensures tells { tells self.old → tells self.new }
         ensures given { tells self.old → (j : ℕ) → disks self.new j ≡ (if j == k then Some disk else disks self.old j) }
         ensures taken { (j : ℕ) → is_taken self.new j ≡ (if j == k then false else is_taken self.old j) }

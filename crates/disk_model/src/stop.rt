@@ -1,6 +1,6 @@
-ghost use Rattle.std.specs.Prelude.{◌≡◌, ◌+◌, ◌-◌, ◌^◌, ◌<◌, ◌≤◌, ◌↔◌, min, None, Some, IsTrue, IsErr, OnOk, OnErr, length};
-ghost use Rattle.disk_model.specs.Crash.{Holds, IsWithin, IsRestarted, advance, written, touched, settled};
-ghost use Rattle.disk_model.specs.Cause.{IsCounted};
+ghost use Rattle.std.specs.Prelude.{◌≡◌, ◌≢◌, ◌+◌, ◌-◌, ◌^◌, ◌<◌, ◌≤◌, ◌↔◌, min, false, true, None, Some, IsTrue, IsErr, OnOk, OnErr, length};
+ghost use Rattle.disk_model.specs.Calls.{IsRead, IsWrite, IsSync, IsRestart};
+ghost use Rattle.disk_model.specs.Health.{less};
 
 use crate::choice::Choice;
 use crate::disk::Disk;
@@ -15,37 +15,36 @@ pub struct Stop<D: Disk> {
     left: Option<u32>,
     /// How many calls were refused so far; it stands still at the last value of a u64.
     refused: u64,
+    /// A call was refused, and no restart succeeded since.
+    refusing: bool,
 }
 
 impl<D: Disk> Stop<D> {
-    ghost use Rattle.disk_model.specs.Stop.{disk_of, left_of, refused_of, one_less};
+    ghost use Rattle.disk_model.specs.Stop.{disk_below, left_of};
 
     /// A stop that lets all calls pass to this disk. It takes no memory.
     pub fn new(disk: D) -> Stop<D>
-        ensures disk { disk_of result ≡ disk }
-        ensures passing { left_of result ≡ None }
-        ensures none { refused_of result ≡ 0 }
+        ensures { result ≡ record { disk = disk; left = None; refused = 0; refusing = false } }
     {
         Stop {
             disk,
             left: None,
             refused: 0,
+            refusing: false,
         }
     }
 
     /// The disk. It takes no memory.
     pub fn into_disk(self) -> D
-        ensures { result ≡ disk_of self }
+        ensures { result ≡ disk_below self }
     {
         self.disk
     }
 
     /// From now on this many writes and syncs pass, or all of them. It takes no memory.
     pub fn stop_after(&mut self, calls: Option<u32>)
-        requires { left_of self.old ≡ Some 0 → ⊥ }
-        ensures left { left_of self.new ≡ calls }
-        ensures disk { disk_of self.new ≡ disk_of self.old }
-        ensures refused { refused_of self.new ≡ refused_of self.old }
+        requires { left_of self.old ≢ Some 0 }
+        ensures { self.new ≡ record self.old { left = calls } }
     {
         self.left = calls;
     }
@@ -63,18 +62,16 @@ impl<D: Disk> Stop<D> {
         ensures failed { IsErr result }
         ensures rose { min (self.old.refused + 1) (2 ^ 64 - 1) ≤ self.new.refused }
         ensures later { self.old.refused ≤ self.new.refused }
-        ensures disk { self.new.disk ≡ self.old.disk }
-        ensures left { self.new.left ≡ self.old.left }
+        ensures rest { self.new ≡ record self.old { refused = self.new.refused; refusing = true } }
     {
         self.refused = self.refused.saturating_add(1);
+        self.refusing = true;
         Err(Failed)
     }
 
     /// Counts a write or a sync that returned.
     fn count(&mut self)
-        ensures left { self.new.left ≡ one_less self.old.left }
-        ensures disk { self.new.disk ≡ self.old.disk }
-        ensures refused { self.new.refused ≡ self.old.refused }
+        ensures { self.new ≡ record self.old { left = less 1 self.old.left } }
     {
         self.left = match self.left {
             Some(calls) => Some(calls.saturating_sub(1)),
@@ -84,27 +81,24 @@ impl<D: Disk> Stop<D> {
 }
 
 impl<D: Disk> Disk for Stop<D> {
-    ghost use Rattle.disk_model.specs.Stop.{disk_of, left_of, one_less};
+    ghost use Rattle.disk_model.specs.Stop.{disk_below, left_of, stop_tells, stop_history, stop_health};
 
-    ghost tells = { λ s. D.Disk.tells s.disk };
+    ghost tells = { stop_tells D.Disk.tells };
 
-    ghost history = { λ s. D.Disk.history s.disk };
+    ghost history = { stop_history D.Disk.history };
 
-    ghost faults = { λ s. D.Disk.faults s.disk + s.refused };
-
-    ghost is_starved = { λ s. D.Disk.is_starved s.disk };
+    ghost health = { stop_health D.Disk.health };
 
     /// Beside what each disk owes: a call is refused just where the stated number has returned, reaches no
-    /// disk then, and else fails for the disk's own cause.
+    /// disk then, and else is the call of the disk below.
     fn read(&mut self, at: u64, into: &mut [u8]) -> Result<(), Failed>
         requires { at + length into.old < 2 ^ 64 }
-        ensures cause { IsCounted (D.Disk.faults (disk_of self.old) + self.old.refused) (D.Disk.faults (disk_of self.new) + self.new.refused) (D.Disk.is_starved (disk_of self.old)) (D.Disk.is_starved (disk_of self.new)) result }
-        ensures tells { D.Disk.tells (disk_of self.old) → D.Disk.tells (disk_of self.new) }
-        ensures given { OnOk result (D.Disk.tells (disk_of self.old) → Holds (D.Disk.history (disk_of self.old)).now.content at into.new) }
-        ensures kept { D.Disk.tells (disk_of self.old) → D.Disk.history (disk_of self.new) ≡ D.Disk.history (disk_of self.old) }
+        ensures disk { IsRead (stop_tells D.Disk.tells) (stop_history D.Disk.history) (stop_health D.Disk.health)
+            self.old self.new at into.new result }
 
-        ensures passes { (left_of self.old ≡ Some 0 → ⊥) → IsCounted (D.Disk.faults (disk_of self.old)) (D.Disk.faults (disk_of self.new)) (D.Disk.is_starved (disk_of self.old)) (D.Disk.is_starved (disk_of self.new)) result }
-        ensures refuses { left_of self.old ≡ Some 0 → IsErr result × (disk_of self.new ≡ disk_of self.old) }
+        ensures passes { left_of self.old ≢ Some 0 → IsRead D.Disk.tells D.Disk.history D.Disk.health
+            (disk_below self.old) (disk_below self.new) at into.new result }
+        ensures refuses { left_of self.old ≡ Some 0 → IsErr result × (disk_below self.new ≡ disk_below self.old) }
         ensures left { left_of self.new ≡ left_of self.old }
     {
         if self.stopped() {
@@ -116,14 +110,13 @@ impl<D: Disk> Disk for Stop<D> {
     /// Beside what each disk owes: as for a read, and a call that returned is counted.
     fn write(&mut self, at: u64, from: &[u8]) -> Result<(), Failed>
         requires { at + length from.now < 2 ^ 64 }
-        ensures cause { IsCounted (D.Disk.faults (disk_of self.old) + self.old.refused) (D.Disk.faults (disk_of self.new) + self.new.refused) (D.Disk.is_starved (disk_of self.old)) (D.Disk.is_starved (disk_of self.new)) result }
-        ensures tells { D.Disk.tells (disk_of self.old) → D.Disk.tells (disk_of self.new) }
-        ensures ok { OnOk result (D.Disk.tells (disk_of self.old) → D.Disk.history (disk_of self.new) ≡ advance (D.Disk.history (disk_of self.old)) (written (D.Disk.history (disk_of self.old)).now at from.now)) }
-        ensures err { OnErr result (D.Disk.tells (disk_of self.old) → IsWithin (touched (D.Disk.history (disk_of self.old)).now at (length from.now)) (D.Disk.history (disk_of self.old)) (D.Disk.history (disk_of self.new))) }
+        ensures disk { IsWrite (stop_tells D.Disk.tells) (stop_history D.Disk.history) (stop_health D.Disk.health)
+            self.old self.new at from.now result }
 
-        ensures passes { (left_of self.old ≡ Some 0 → ⊥) → IsCounted (D.Disk.faults (disk_of self.old)) (D.Disk.faults (disk_of self.new)) (D.Disk.is_starved (disk_of self.old)) (D.Disk.is_starved (disk_of self.new)) result }
-        ensures refuses { left_of self.old ≡ Some 0 → IsErr result × (disk_of self.new ≡ disk_of self.old) }
-        ensures left { left_of self.new ≡ one_less (left_of self.old) }
+        ensures passes { left_of self.old ≢ Some 0 → IsWrite D.Disk.tells D.Disk.history D.Disk.health
+            (disk_below self.old) (disk_below self.new) at from.now result }
+        ensures refuses { left_of self.old ≡ Some 0 → IsErr result × (disk_below self.new ≡ disk_below self.old) }
+        ensures left { left_of self.new ≡ less 1 (left_of self.old) }
     {
         if self.stopped() {
             return self.refuse();
@@ -135,14 +128,13 @@ impl<D: Disk> Disk for Stop<D> {
 
     /// Beside what each disk owes: as for a write.
     fn sync(&mut self) -> Result<(), Failed>
-        ensures cause { IsCounted (D.Disk.faults (disk_of self.old) + self.old.refused) (D.Disk.faults (disk_of self.new) + self.new.refused) (D.Disk.is_starved (disk_of self.old)) (D.Disk.is_starved (disk_of self.new)) result }
-        ensures tells { D.Disk.tells (disk_of self.old) → D.Disk.tells (disk_of self.new) }
-        ensures ok { OnOk result (D.Disk.tells (disk_of self.old) → D.Disk.history (disk_of self.new) ≡ advance (D.Disk.history (disk_of self.old)) (settled (D.Disk.history (disk_of self.old)).now.content)) }
-        ensures err { OnErr result (D.Disk.tells (disk_of self.old) → IsWithin (D.Disk.history (disk_of self.old)).now (D.Disk.history (disk_of self.old)) (D.Disk.history (disk_of self.new))) }
+        ensures disk { IsSync (stop_tells D.Disk.tells) (stop_history D.Disk.history) (stop_health D.Disk.health)
+            self.old self.new result }
 
-        ensures passes { (left_of self.old ≡ Some 0 → ⊥) → IsCounted (D.Disk.faults (disk_of self.old)) (D.Disk.faults (disk_of self.new)) (D.Disk.is_starved (disk_of self.old)) (D.Disk.is_starved (disk_of self.new)) result }
-        ensures refuses { left_of self.old ≡ Some 0 → IsErr result × (disk_of self.new ≡ disk_of self.old) }
-        ensures left { left_of self.new ≡ one_less (left_of self.old) }
+        ensures passes { left_of self.old ≢ Some 0 → IsSync D.Disk.tells D.Disk.history D.Disk.health
+            (disk_below self.old) (disk_below self.new) result }
+        ensures refuses { left_of self.old ≡ Some 0 → IsErr result × (disk_below self.new ≡ disk_below self.old) }
+        ensures left { left_of self.new ≡ less 1 (left_of self.old) }
     {
         if self.stopped() {
             return self.refuse();
@@ -152,19 +144,20 @@ impl<D: Disk> Disk for Stop<D> {
         result
     }
 
-    /// Beside what each disk owes: it always reaches the disk, and lets all calls pass where it succeeds.
+    /// Beside what each disk owes: it always reaches the disk with the same choice, and lets all calls pass
+    /// where it succeeds.
     fn restart(&mut self, choice: Choice) -> Result<(), Failed>
-        ensures cause { IsCounted (D.Disk.faults (disk_of self.old) + self.old.refused) (D.Disk.faults (disk_of self.new) + self.new.refused) (D.Disk.is_starved (disk_of self.old)) (D.Disk.is_starved (disk_of self.new)) result }
-        ensures tells { D.Disk.tells (disk_of self.old) → D.Disk.tells (disk_of self.new) }
-        ensures ok { OnOk result (D.Disk.tells (disk_of self.old) → IsRestarted (D.Disk.history (disk_of self.old)) (D.Disk.history (disk_of self.new))) }
-        ensures err { OnErr result (D.Disk.tells (disk_of self.old) → IsWithin (D.Disk.history (disk_of self.old)).now (D.Disk.history (disk_of self.old)) (D.Disk.history (disk_of self.new))) }
+        ensures disk { IsRestart (stop_tells D.Disk.tells) (stop_history D.Disk.history) (stop_health D.Disk.health)
+            self.old self.new choice result }
 
-        ensures passes { IsCounted (D.Disk.faults (disk_of self.old)) (D.Disk.faults (disk_of self.new)) (D.Disk.is_starved (disk_of self.old)) (D.Disk.is_starved (disk_of self.new)) result }
+        ensures passes { IsRestart D.Disk.tells D.Disk.history D.Disk.health
+            (disk_below self.old) (disk_below self.new) choice result }
         ensures passing { OnOk result (left_of self.new ≡ None) }
         ensures stays { OnErr result (left_of self.new ≡ left_of self.old) }
     {
         self.disk.restart(choice)?;
         self.left = None;
+        self.refusing = false;
         Ok(())
     }
 

@@ -1,7 +1,7 @@
 ghost use Rattle.std.specs.Prelude.{◌≡◌, ◌+◌, ◌^◌, ◌<◌, ℕ, [], ◌∷◌, ◌++◌, length, if◌then◌else◌, IfOk, OnOk, OnErr};
 ghost use Rattle.disk_model.specs.Crash.{Holds, is_pending};
 ghost use Rattle.disk_model.specs.Frames.{bytes_of};
-ghost use Rattle.disk_model.specs.Store.{IsStore, undone, taken, ranges_of};
+ghost use Rattle.disk_model.specs.Store.{IsStore, undone, image_by, ranges_of};
 
 use crate::change::Change;
 use crate::choice::Choice;
@@ -96,7 +96,7 @@ impl Store {
         ensures ok { OnOk result (self.new.changes.items ≡ self.old.changes.items ++ Change.Restarted choice ∷ []) }
         ensures err { OnErr result (self.new.changes.items ≡ self.old.changes.items) }
     {
-        take(&mut self.frames, &mut self.pending, choice)?;
+        take_image(&mut self.frames, &mut self.pending, choice)?;
         self.changes.push(Change::Restarted(choice))?;
         Ok(())
     }
@@ -115,8 +115,13 @@ impl Store {
 }
 
 /// Makes the content the image that `choice` names, with nothing pending.
-fn take(frames: &mut Frames, pending: &mut Vec<Overwritten>, choice: Choice) -> Result<(), NoMemory>
-    ensures content { OnOk result ((place : ℕ) → bytes_of frames.new place ≡ taken choice (bytes_of frames.old) pending.old.items place) }
+fn take_image(
+    frames: &mut Frames,
+    pending: &mut Vec<Overwritten>,
+    choice: Choice,
+) -> Result<(), NoMemory>
+    ensures content { OnOk result ((place : ℕ)
+        → bytes_of frames.new place ≡ image_by choice (bytes_of frames.old) pending.old.items place) }
     ensures none { OnOk result (pending.new.items ≡ []) }
 {
     match choice {
@@ -131,7 +136,8 @@ fn take(frames: &mut Frames, pending: &mut Vec<Overwritten>, choice: Choice) -> 
 
 /// Puts back what was overwritten, the newest first.
 fn undo(frames: &mut Frames, pending: &mut Vec<Overwritten>) -> Result<(), NoMemory>
-    ensures content { OnOk result ((place : ℕ) → bytes_of frames.new place ≡ undone (bytes_of frames.old) pending.old.items place) }
+    ensures content { OnOk result ((place : ℕ)
+        → bytes_of frames.new place ≡ undone (bytes_of frames.old) pending.old.items place) }
     ensures none { OnOk result (pending.new.items ≡ []) }
 {
     while let Some(last) = pending.pop() {

@@ -1,10 +1,15 @@
 -- A log is read in one way.
-use Rattle.std.proofs.Common.{◌≡◌, ◌≢◌, ℕ, ◌+◌, ◌^◌, ◌<◌, List, [], ◌∷◌, ◌++◌, length, refl, sym, ap, subst, ◌∙◌, length-append, arith}
+use Rattle.std.proofs.Common.{◌≡◌, ◌≢◌, ◌⊎◌, inl, inr, Ok, ℕ, ◌+◌, ◌^◌, ◌<◌, List, [], ◌∷◌, ◌++◌, length, refl, sym, ap, subst, ◌∙◌, length-append, arith}
 use Rattle.std.specs.Int.{w32, from_be_bytes}
 use Rattle.std.proofs.lemmas.Nat.{from_be_bytes-to_be_bytes_4}
 use Rattle.sfs_xdr.specs.Items.{word}
-use Rattle.disk_model.specs.Crash.{Content, Holds}
+use Rattle.disk_model.specs.declared.choice.Choice.{Choice}
+use Rattle.disk_model.specs.Calls.{IsReady, IsRestart}
+use Rattle.disk_model.specs.Crash.{Content, History, Holds, LeavesOnly}
+use Rattle.disk_model.specs.Health.{Health}
+use Rattle.disk_model.proofs.MomentLemmas.{left_last}
 use Rattle.disk_model.specs.LogBytes.{entry_bytes, log_bytes, StandsFor, IsBadGate}
+use Rattle.gate_log.specs.Append.{IsAppending, IsBeforeOrAfter}
 use Rattle.gate_log.specs.Laws.{LogsHaveOneList, DamagedLogsHaveNone, DisksHaveOneBoot}
 use Rattle.gate_log.proofs.BootLemmas.{held_same, one_boot}
 use Rattle.gate_log.proofs.LogLemmas.{holds_front, holds_back, length-entry_bytes}
@@ -112,3 +117,28 @@ logs_damaged content base at entries damaged stands =
 
 pub boots_one : DisksHaveOneBoot
 boots_one = one_boot
+
+-- what is found on an image that an append left
+pub found_of : (base : ℕ) (entries found : List (List ℕ)) (entry : List ℕ) (content image : Content) → IsAppending base entries entry content image
+    → StandsFor image base found → (found ≡ entries) ⊎ (found ≡ entries ++ entry ∷ [])
+found_of base entries found entry content image appending stands = by_log appending.log
+  where
+    by_log : IsBeforeOrAfter base entries entry image → (found ≡ entries) ⊎ (found ≡ entries ++ entry ∷ [])
+    by_log (inl before) = inl (logs_one image base found entries stands before)
+    by_log (inr after) = inr (logs_one image base found (entries ++ entry ∷ []) stands after)
+
+-- an append whatever it answered, a restart and a load
+pub recovered_is : {D X E : Type 0} (tells : D → Type 0) (history : D → History) (health : D → Health) (old failed new : D) (choice : Choice) (x : X) (base : ℕ)
+    (entries found : List (List ℕ)) (entry : List ℕ) → LeavesOnly (history old) (history failed) (IsAppending base entries entry (history old).now.content)
+    → IsRestart {E = E} tells history health failed new choice (Ok x) → tells failed
+    → (IsReady tells history health new → StandsFor (history new).now.content base found) → (found ≡ entries) ⊎ (found ≡ entries ++ entry ∷ [])
+recovered_is tells history health old failed new choice x base entries found entry leaves restart told loaded =
+    let taken = restart.ok told in
+    let content : (history new).now.content ≡ taken.image = ap (λ (h : History). h.now.content) taken.is in
+    let ready : IsReady tells history health new = record {
+      speaks = (restart.still told, restart.revived.usable);
+      safe = ap (λ (h : History). h.now.pending) taken.is;
+    } in
+    found_of base entries found entry (history old).now.content taken.image
+    (left_last (IsAppending base entries entry (history old).now.content) (history old) (history failed) leaves taken.image taken.left)
+    (subst (λ (c : Content). StandsFor c base found) content (loaded ready))

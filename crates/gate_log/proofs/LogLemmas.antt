@@ -7,7 +7,7 @@ use Rattle.sfs_xdr.specs.Items.{word}
 use Rattle.disk_model.specs.Crash.{Content, Snapshot, MayLeave, History, put, touched, settled, Holds, LeavesOnly, is_pending}
 use Rattle.disk_model.specs.LogBytes.{entry_bytes, log_bytes, StandsFor}
 use Rattle.disk_model.proofs.ContentLemmas.{put_out, put_holds}
-use Rattle.gate_log.specs.Entries.{IsBeforeOrAfter, IsSameBelow, Opens, sealed}
+use Rattle.gate_log.specs.Append.{IsAppending, IsBeforeOrAfter, IsSameOutside, Opens, sealed}
 use Rattle.disk_model.proofs.MomentLemmas.{outside_one, weaker_moments, join_moments}
 
 -- ---- bytes that are held
@@ -143,12 +143,27 @@ module _ (before : Snapshot) (base : ℕ) (entries : List (List ℕ)) (entry : L
   opens_leaves image (inr left) = at_gate image (λ place out.
       left_same (settled (put before.content (base + length (log_bytes entries) + 1) (sealed entry))) (base + length (log_bytes entries)) 1 image refl left place out)
 
-  pub opens_below : (image : Content) → Opens before (base + length (log_bytes entries)) (sealed entry) image → IsSameBelow base before.content image
-  opens_below image (inl left) place low =
-      left_same before (base + length (log_bytes entries) + 1) (length (sealed entry)) image none left place (inl (omega (arith, low)))
-  opens_below image (inr left) place low =
-      left_same (settled (put before.content (base + length (log_bytes entries) + 1) (sealed entry))) (base + length (log_bytes entries)) 1 image refl left place (inl (omega (arith, low)))
-      ∙ put_out before.content (base + length (log_bytes entries) + 1) (sealed entry) place (inl (omega (arith, low)))
+  fits_sealed : length (sealed entry) ≡ 5 + length entry
+  fits_sealed = omega (arith, length-append (word (length entry)) (entry ++ 0 ∷ []), length-append entry (0 ∷ []), word_length (length entry))
+    where
+      word_length : (n : ℕ) → length (word n) ≡ 4
+      word_length n = refl
+
+  pub opens_outside : (image : Content) → Opens before (base + length (log_bytes entries)) (sealed entry) image → IsSameOutside base before.content image
+  opens_outside image (inl left) place out =
+      left_same before (base + length (log_bytes entries) + 1) (length (sealed entry)) image none left place (elim out [
+        | inl low ↦ inl (omega (arith, low))
+        | inr high ↦ inr (omega (arith, high, fits_sealed))
+      ])
+  opens_outside image (inr left) place out =
+      left_same (settled (put before.content (base + length (log_bytes entries) + 1) (sealed entry))) (base + length (log_bytes entries)) 1 image refl left place (elim out [
+        | inl low ↦ inl (omega (arith, low))
+        | inr high ↦ inr (omega (arith, high, fits))
+      ])
+      ∙ put_out before.content (base + length (log_bytes entries) + 1) (sealed entry) place (elim out [
+        | inl low ↦ inl (omega (arith, low))
+        | inr high ↦ inr (omega (arith, high, fits_sealed))
+      ])
 
   -- once the gate is open and safe
   pub opened_stands : StandsFor (put (put before.content (base + length (log_bytes entries) + 1) (sealed entry)) (base + length (log_bytes entries)) (1 ∷ [])) base (entries ++ entry ∷ [])
@@ -170,22 +185,14 @@ module _ (before now : History) (base end : ℕ) (entries : List (List ℕ)) (en
   room : length (log_bytes entries) + 5 + length entry < 2 ^ 32
   room = omega arith
 
-  pub append_leaves : LeavesOnly before now (Opens before.now (base + end) bytes) → LeavesOnly before now (IsBeforeOrAfter base entries entry)
-  append_leaves leaves = weaker_moments (Opens before.now (base + end) bytes) (IsBeforeOrAfter base entries entry) before now (λ image left.
-      opens_leaves before.now base entries entry none stands room image
-      (subst (λ (n : ℕ). Opens before.now (base + n) (sealed entry) image) ends (subst (λ (b : List ℕ). Opens before.now (base + end) b image) is left))) leaves
-
-  at_end : (image : Content) → Opens before.now (base + end) bytes image → Opens before.now (base + length (log_bytes entries)) (sealed entry) image
-  at_end image left = subst (λ (n : ℕ). Opens before.now (base + n) (sealed entry) image) ends (subst (λ (b : List ℕ). Opens before.now (base + end) b image) is left)
-
-  pub append_elsewhere : LeavesOnly before now (Opens before.now (base + end) bytes)
-      → LeavesOnly before now (λ image. IsBeforeOrAfter base entries entry image × IsSameBelow base before.now.content image)
-  append_elsewhere leaves =
-      weaker_moments (Opens before.now (base + end) bytes) (λ (image : Content). IsBeforeOrAfter base entries entry image × IsSameBelow base before.now.content image) before now
-      (λ image left. (
-        opens_leaves before.now base entries entry none stands room image (at_end image left),
-        opens_below before.now base entries entry none stands room image (at_end image left),
-      )) leaves
+  pub append_leaves : LeavesOnly before now (Opens before.now (base + end) bytes) → LeavesOnly before now (IsAppending base entries entry before.now.content)
+  append_leaves leaves = weaker_moments (Opens before.now (base + end) bytes) (IsAppending base entries entry before.now.content) before now (λ image left. record {
+    log = opens_leaves before.now base entries entry none stands room image (at_end image left);
+    rest = opens_outside before.now base entries entry none stands room image (at_end image left);
+  }) leaves
+    where
+      at_end : (image : Content) → Opens before.now (base + end) bytes image → Opens before.now (base + length (log_bytes entries)) (sealed entry) image
+      at_end image left = subst (λ (n : ℕ). Opens before.now (base + n) (sealed entry) image) ends (subst (λ (b : List ℕ). Opens before.now (base + end) b image) is left)
 
   pub append_stands : now.now ≡ settled (put (put before.now.content (base + end + 1) bytes) (base + end) (1 ∷ [])) → StandsFor now.now.content base (entries ++ entry ∷ [])
   append_stands last = subst (λ (s : Snapshot). StandsFor s.content base (entries ++ entry ∷ [])) (sym last)

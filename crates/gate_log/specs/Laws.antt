@@ -6,11 +6,13 @@ use Rattle.gate_log.specs.Boot.{HasBoot}
 
 -- a log has one list of entries
 abbrev pub LogsHaveOneList : Type 0
-LogsHaveOneList = (content : Content) (base : ℕ) (entries others : List (List ℕ)) → StandsFor content base entries → StandsFor content base others → entries ≡ others
+LogsHaveOneList = (content : Content) (base : ℕ) (entries others : List (List ℕ))
+    → StandsFor content base entries → StandsFor content base others → entries ≡ others
 
 -- a log with a damaged gate has none
 abbrev pub DamagedLogsHaveNone : Type 0
-DamagedLogsHaveNone = (content : Content) (base at : ℕ) (entries : List (List ℕ)) → IsDamaged content base at → StandsFor content base entries → ⊥
+DamagedLogsHaveNone = (content : Content) (base at : ℕ) (entries : List (List ℕ))
+    → IsDamaged content base at → StandsFor content base entries → ⊥
 
 -- a disk has one boot number
 abbrev pub DisksHaveOneBoot : Type 0

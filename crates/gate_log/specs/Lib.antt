@@ -1,4 +1,7 @@
+pub mod Append
 pub mod Boot
-pub mod Entries
+pub mod Fault
 pub mod Laws
 pub mod Log
+pub mod Scan
+pub mod Window

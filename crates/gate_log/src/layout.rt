@@ -1,6 +1,5 @@
 ghost use Rattle.std.specs.Prelude.{◌≡◌, ◌+◌, ◌^◌, ◌<◌, ◌≤◌, ◌↔◌, length, IsTrue, IfOk};
-ghost use Rattle.std.specs.Int.{w32, to_be_bytes};
-ghost use Rattle.gate_log.specs.Entries.{sealed};
+ghost use Rattle.gate_log.specs.Append.{sealed};
 
 use sfs_base::NoMemory;
 use std::alloc::Global;
@@ -14,7 +13,13 @@ pub(crate) const OPEN: u8 = 1;
 /// A gate that ends the log. Any other byte than [`OPEN`] does.
 const CLOSED: u8 = 0;
 
-/// The bytes before an entry: its gate, and its length as a word.
+/// The bytes of a gate.
+const GATE_BYTES: usize = 1;
+
+/// The bytes of the length of an entry, which is a word.
+const LENGTH_BYTES: usize = 4;
+
+/// The bytes before an entry: its gate and its length.
 pub(crate) const HEADER_BYTES: u64 = 5;
 
 /// Whether the gate behind an entry of this length would lie past the limit, where the gate before it
@@ -23,6 +28,7 @@ pub(crate) fn is_full(end: u64, length: u64) -> bool
     requires { end < 2 ^ 32 }
     ensures { IsTrue result ↔ (2 ^ 32 ≤ end + 5 + length) }
 {
+    // The entry's end may lie past the last number of a u64, so the room is compared.
     let room = MAX_LOG_BYTES - end;
     room <= HEADER_BYTES || length >= room - HEADER_BYTES
 }
@@ -32,18 +38,9 @@ pub(crate) fn seal(alloc: Global, entry: &[u8]) -> Result<Vec<u8>, NoMemory>
     requires { length entry.now < 2 ^ 32 }
     ensures { IfOk result (λ bytes. bytes.items ≡ sealed entry.now) }
 {
-    let mut bytes = Vec::with_capacity(alloc, entry.len() + HEADER_BYTES as usize)?;
+    let mut bytes = Vec::with_capacity(alloc, LENGTH_BYTES + entry.len() + GATE_BYTES)?;
     bytes.extend_from_slice(&(entry.len() as u32).to_be_bytes())?;
     bytes.extend_from_slice(entry)?;
     bytes.push(CLOSED)?;
     Ok(bytes)
-}
-
-/// The number that these 4 bytes spell, the highest first.
-pub(crate) fn word_of(bytes: &[u8]) -> u32
-    requires { length bytes.now ≡ 4 }
-    ensures spelled { to_be_bytes w32 result ≡ bytes.now }
-    ensures fits { result < 2 ^ 32 }
-{
-    u32::from_be_bytes([bytes[0], bytes[1], bytes[2], bytes[3]])
 }

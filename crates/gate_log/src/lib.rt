@@ -4,19 +4,24 @@
 //! that a crash at any moment leaves the entries before or those and the new one; no checksum is
 //! trusted. A [`BootCell`] writes the next number beside the present one before a selector names it.
 //! Both stand on any [`Disk`](disk_model::Disk). Their caller owes a disk on which nothing is pending,
-//! and after a failure a restart of it. That a disk holds one log and one boot number is a law, carried
+//! and after a failure a restart of it: then a log that is loaded has the entries before the append that
+//! failed, or those and the new one. That a disk holds one log and one boot number is a law, carried
 //! by the functions of `laws`.
 #![tactic(auto)]
 
 mod boot_cell;
 mod boot_fault;
 mod extent;
+mod gate;
 mod laws;
 mod layout;
 mod log;
 mod log_fault;
+mod numbers;
 mod scan;
+mod side;
 mod through;
+mod window;
 
 pub use boot_cell::BootCell;
 pub use boot_fault::BootFault;

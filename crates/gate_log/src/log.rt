@@ -1,8 +1,10 @@
-ghost use Rattle.std.specs.Prelude.{◌≡◌, ◌⊎◌, ◌↔◌, ◌+◌, ◌^◌, ◌<◌, ◌≤◌, ℕ, true, false, [], ◌∷◌, ◌++◌, List, length, Some, IsTrue, IfOk, IfErr, OnOk, OnErr, IsErrOf};
+ghost use Rattle.std.specs.Prelude.{◌≡◌, ◌≢◌, ◌⊎◌, ◌↔◌, ◌+◌, ◌^◌, ◌<◌, ◌≤◌, ℕ, true, false, [], ◌∷◌, ◌++◌, List, length, Some, IsTrue, IfOk, IfErr, OnOk, OnErr, IsErrOf};
+ghost use Rattle.disk_model.specs.Calls.{IsReady};
 ghost use Rattle.disk_model.specs.Crash.{LeavesOnly, put, settled};
-ghost use Rattle.disk_model.specs.Cause.{FailedFor, IsCounted};
-ghost use Rattle.disk_model.specs.LogBytes.{log_bytes, StandsFor, IsDamaged};
-ghost use Rattle.gate_log.specs.Entries.{IsBeforeOrAfter, IsSameBelow, IsCause, IsAppendFault, Opens};
+ghost use Rattle.disk_model.specs.Health.{Fell, Hands, IsLive, Passed, Speaks, count_after};
+ghost use Rattle.disk_model.specs.LogBytes.{log_bytes, IsDamaged};
+ghost use Rattle.gate_log.specs.Append.{IsAppending, Opens};
+ghost use Rattle.gate_log.specs.Fault.{IsLoadFault, IsAppendFault};
 
 use crate::extent::Extent;
 use crate::layout::{HEADER_BYTES, OPEN, is_full, seal};
@@ -27,29 +29,28 @@ impl<D: Disk> Log<D> {
     ghost use Rattle.gate_log.specs.Log.{disk_of, base_of, end_of, has_failed, IsLog};
 
     /// Finds the entries of the log that begins at the place `base` of this disk, in order. Nothing may
-    /// be pending on the disk. A refused call hands the disk back. [`LogFault::Failed`]: the disk failed.
-    /// [`LogFault::Damaged`]: an open gate stands there whose entry would end past the limit.
-    /// [`LogFault::NoMemory`]: there is no memory for the entries.
+    /// be pending on the disk. It is read in pieces of 64 KiB. A refused call hands the disk back.
+    /// [`LogFault::Failed`]: the disk failed. [`LogFault::Damaged`]: an open gate stands there whose entry
+    /// would end past the limit. [`LogFault::NoMemory`]: there is no memory for the entries, or a piece.
     pub fn load(alloc: Global, disk: D, base: u64) -> Result<(Log<D>, Entries), (LogFault, D)>
         requires { base + 2 ^ 32 < 2 ^ 64 }
-        ensures entries { IfOk result (λ loaded. D.tells disk → (D.history disk).now.pending ≡ [] → IsLog D.tells D.history loaded.0 loaded.1) }
+        ensures entries { IfOk result (λ loaded. IsReady D.tells D.history D.health disk
+            → IsLog D.tells D.history D.health loaded.0 loaded.1) }
         ensures base { IfOk result (λ loaded. base_of loaded.0 ≡ base) }
         ensures ready { IfOk result (λ loaded. has_failed loaded.0 ≡ false) }
+        ensures end { IfOk result (λ loaded. end_of loaded.0 ≡ length (log_bytes loaded.1)) }
         ensures within { IfOk result (λ loaded. length (log_bytes loaded.1) < 2 ^ 32) }
-        ensures refused { IfErr result (λ refusal. IsCause refusal.0 (FailedFor (D.faults disk) (D.faults refusal.1) (D.is_starved refusal.1))
-            (λ at. D.tells disk → IsDamaged (D.history disk).now.content base at)) }
+        ensures refused { IfErr result (λ refusal. IsLoadFault refusal.0
+            (Fell 0 (D.health disk) (D.health refusal.1)) (Passed 0 (D.health disk) (D.health refusal.1))
+            (λ at. Speaks D.tells D.health disk → IsDamaged (D.history disk).now.content base at)) }
 
-        // A crash at any moment of the call leaves the same entries.
-        ensures any_moment { IfOk result (λ loaded. D.tells disk → (D.history disk).now.pending ≡ [] → (entries : List (List ℕ)) → StandsFor (D.history disk).now.content base entries
-            → LeavesOnly (D.history disk) (D.history (disk_of loaded.0)) (λ image. StandsFor image base entries)) }
-        ensures any_moment_err { IfErr result (λ refusal. D.tells disk → (D.history disk).now.pending ≡ [] → (entries : List (List ℕ)) → StandsFor (D.history disk).now.content base entries
-            → LeavesOnly (D.history disk) (D.history refusal.1) (λ image. StandsFor image base entries)) }
-
-        // The disk is as it was.
-        ensures same { IfOk result (λ loaded. D.tells disk → D.tells (disk_of loaded.0) × (D.history (disk_of loaded.0) ≡ D.history disk)) }
-        ensures same_err { IfErr result (λ refusal. D.tells disk → D.tells refusal.1 × (D.history refusal.1 ≡ D.history disk)) }
-        ensures kept { IfOk result (λ loaded. D.faults (disk_of loaded.0) ≡ D.faults disk) }
-        ensures later { IfErr result (λ refusal. D.faults disk ≤ D.faults refusal.1) }
+        // The disk is as it was, so a crash at any moment of the call leaves what it left before.
+        ensures same { IfOk result (λ loaded. Speaks D.tells D.health disk
+            → Speaks D.tells D.health (disk_of loaded.0) × (D.history (disk_of loaded.0) ≡ D.history disk)) }
+        ensures same_err { IfErr result (λ refusal. Speaks D.tells D.health disk
+            → D.tells refusal.1 × (D.history refusal.1 ≡ D.history disk)) }
+        ensures passed { IfOk result (λ loaded. Passed 0 (D.health disk) (D.health (disk_of loaded.0))) }
+        ensures live { OnOk result (IsLive 0 (D.health disk)) }
     {
         let mut disk = disk;
         match scan(alloc, &mut disk, base) {
@@ -78,40 +79,45 @@ impl<D: Disk> Log<D> {
 
     /// Whether the disk once found no memory. It takes no memory.
     pub fn starved(&self) -> bool
-        ensures { result ≡ D.is_starved (disk_of self.now) }
+        ensures { result ≡ (D.health (disk_of self.now)).is_starved }
     {
         self.disk.starved()
     }
 
     /// Adds an entry at the end: its bytes behind the closed gate, and once they are safe the gate is
-    /// opened. Where it succeeds, each crash from then on leaves the entry. [`LogFault::Full`]: the gate
-    /// behind the entry would lie at the limit or past it. [`LogFault::Failed`]: the disk failed in this
-    /// call or an earlier one; the log answers this until it is loaded again. [`LogFault::NoMemory`]:
-    /// there is no memory for the entry's bytes.
+    /// opened, which takes two writes and two syncs, and no other call. Where it succeeds, each crash from
+    /// then on leaves the entry. [`LogFault::Full`]: the gate behind the entry would lie at the limit or past
+    /// it. [`LogFault::Failed`]: the disk failed in this call or an earlier one; the log answers this until
+    /// it is loaded again. [`LogFault::NoMemory`]: there is no memory for the entry's bytes.
     pub fn append(&mut self, entry: &[u8]) -> Result<(), LogFault>
-        ensures appended { OnOk result ((entries : List (List ℕ)) → IsLog D.tells D.history self.old entries
-            → IsLog D.tells D.history self.new (entries ++ entry.now ∷ [])) }
+        ensures appended { OnOk result ((entries : List (List ℕ)) → IsLog D.tells D.history D.health self.old entries
+            → IsLog D.tells D.history D.health self.new (entries ++ entry.now ∷ [])) }
 
-        // A crash at any moment of the call leaves the entries before it, or those and the new one.
-        ensures any_moment { (entries : List (List ℕ)) → IsLog D.tells D.history self.old entries
-            → LeavesOnly (D.history (disk_of self.old)) (D.history (disk_of self.new)) (IsBeforeOrAfter (base_of self.old) entries entry.now) }
-
-        // And it leaves the bytes before the log as they are.
-        ensures elsewhere { (entries : List (List ℕ)) → IsLog D.tells D.history self.old entries
+        // A crash at any moment of the call leaves the entries before it, or those and the new one, and all
+        // bytes outside the log as they are.
+        ensures any_moment { (entries : List (List ℕ)) → IsLog D.tells D.history D.health self.old entries
             → LeavesOnly (D.history (disk_of self.old)) (D.history (disk_of self.new))
-            (λ image. IsBeforeOrAfter (base_of self.old) entries entry.now image × IsSameBelow (base_of self.old) (D.history (disk_of self.old)).now.content image) }
+            (IsAppending (base_of self.old) entries entry.now (D.history (disk_of self.old)).now.content) }
 
-        ensures full { IsErrOf result LogFault.Full ↔ ((has_failed self.old ≡ false) × (2 ^ 32 ≤ end_of self.old + 5 + length entry.now)) }
+        // After each answer the disk still tells what it holds, so it may be restarted and the log loaded.
+        ensures still { Speaks D.tells D.health (disk_of self.old) → D.tells (disk_of self.new) }
+
+        ensures full { IsErrOf result LogFault.Full
+            ↔ ((has_failed self.old ≡ false) × (2 ^ 32 ≤ end_of self.old + 5 + length entry.now)) }
         ensures failed { IsErrOf result LogFault.Failed → (has_failed self.old ≡ true)
-            ⊎ FailedFor (D.faults (disk_of self.old)) (D.faults (disk_of self.new)) (D.is_starved (disk_of self.new)) }
+            ⊎ Fell 4 (D.health (disk_of self.old)) (D.health (disk_of self.new)) }
         ensures shut { IsErrOf result LogFault.Failed → has_failed self.new ≡ true }
         ensures stays_shut { has_failed self.old ≡ true → IsErrOf result LogFault.Failed × (self.new ≡ self.old) }
         ensures refused { OnErr result (IsErrOf result LogFault.Failed ⊎ (self.new ≡ self.old)) }
         ensures not_damaged { IfErr result IsAppendFault }
         ensures fine { OnOk result (has_failed self.new ≡ false) }
         ensures base { base_of self.new ≡ base_of self.old }
-        ensures kept { OnOk result (D.faults (disk_of self.new) ≡ D.faults (disk_of self.old)) }
-        ensures later { D.faults (disk_of self.old) ≤ D.faults (disk_of self.new) }
+        ensures end { OnOk result (end_of self.new ≡ end_of self.old + 5 + length entry.now) }
+        ensures end_err { OnErr result (end_of self.new ≡ end_of self.old) }
+        ensures passed { OnOk result (Passed 4 (D.health (disk_of self.old)) (D.health (disk_of self.new))) }
+        ensures live { OnOk result (IsLive 4 (D.health (disk_of self.old))) }
+        ensures calls { OnOk result ((D.health (disk_of self.new)).calls
+            ≡ count_after 4 (D.health (disk_of self.old)).calls) }
     {
         if self.failed {
             return Err(LogFault::Failed);
@@ -135,16 +141,13 @@ impl<D: Disk> Log<D> {
 }
 
 impl<D: Disk> Log<Stop<D>> {
+    ghost use Rattle.disk_model.specs.Stop.{left_of};
     ghost use Rattle.gate_log.specs.Log.{disk_of};
-    ghost use Rattle.disk_model.specs.Stop.{disk_of as stopped_disk_of, left_of, refused_of};
 
     /// From now on this many writes and syncs pass to the disk below, or all of them. It takes no memory.
     pub fn stop_after(&mut self, calls: Option<u32>)
-        requires { left_of (disk_of self.old) ≡ Some 0 → ⊥ }
-        ensures left { left_of (disk_of self.new) ≡ calls }
-        ensures disk { stopped_disk_of (disk_of self.new) ≡ stopped_disk_of (disk_of self.old) }
-        ensures refused { refused_of (disk_of self.new) ≡ refused_of (disk_of self.old) }
-        ensures log { self.new ≡ record self.old { disk = disk_of self.new } }
+        requires { left_of (disk_of self.old) ≢ Some 0 }
+        ensures { self.new ≡ record self.old { disk = record (disk_of self.old) { left = calls } } }
     {
         self.disk.stop_after(calls);
     }
@@ -161,11 +164,11 @@ impl<D: Disk> Log<Stop<D>> {
 /// Writes these bytes behind a gate, and opens it.
 fn open_behind<D: Disk>(disk: &mut D, gate: u64, bytes: &[u8]) -> Result<(), Failed>
     requires { gate + 1 + length bytes.now < 2 ^ 64 }
-    ensures cause { IsCounted (D.faults disk.old) (D.faults disk.new) (D.is_starved disk.old) (D.is_starved disk.new) result }
-    ensures tells { D.tells disk.old → D.tells disk.new }
-    ensures ok { OnOk result (D.tells disk.old → (D.history disk.new).now
+    ensures hands { Hands D.tells D.health 4 disk.old disk.new result }
+    ensures calls { OnOk result ((D.health disk.new).calls ≡ count_after 4 (D.health disk.old).calls) }
+    ensures ok { OnOk result (Speaks D.tells D.health disk.old → (D.history disk.new).now
         ≡ settled (put (put (D.history disk.old).now.content (gate + 1) bytes.now) gate (1 ∷ []))) }
-    ensures any_moment { D.tells disk.old
+    ensures any_moment { Speaks D.tells D.health disk.old
         → LeavesOnly (D.history disk.old) (D.history disk.new) (Opens (D.history disk.old).now gate bytes.now) }
 {
     write_through(disk, gate + 1, bytes)?;

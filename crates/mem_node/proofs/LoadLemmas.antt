@@ -4,6 +4,7 @@ use Rattle.std.specs.Prelude.{◌↔◌, IsTrue, IfOk, IfErr}
 use Rattle.std.proofs.lemmas.Grind.{same_number_lists}
 use Rattle.disk_model.specs.Crash.{Content, History, Holds}
 use Rattle.disk_model.specs.declared.disk.Disk.{Ghosts}
+use Rattle.disk_model.specs.Health.{Health}
 use Rattle.mem_node.specs.declared.mem_node.MemNode.{MemNode}
 use Rattle.mem_node.specs.declared.node_fault.NodeFault.{NodeFault}
 use Rattle.mem_node.specs.declared.node_fault.NodeFault.TheVariants.{Down, Full, Other, Damaged, NoMemory}
@@ -31,36 +32,38 @@ formatted_iff s content found wanted mark b held len marked one is iff = (
 )
 
 -- why a replay was refused, as a refusal of the whole
-load_fault : (fault : NodeFault) (P Q : ℕ → Type 0) (failure other : Type 0) → ((at : ℕ) → P at → Q at) → IsReplayFault fault P → IsLoadFault fault failure other Q
-load_fault Down P Q failure other weaker is = absurd is
-load_fault Full P Q failure other weaker is = absurd is
-load_fault Other P Q failure other weaker is = absurd is
-load_fault (Damaged at) P Q failure other weaker is = weaker at is
-load_fault NoMemory P Q failure other weaker is = tt
+load_fault : (fault : NodeFault) (P Q : ℕ → Type 0) (fell passed other : Type 0) → passed → ((at : ℕ) → P at → Q at) → IsReplayFault fault P → IsLoadFault fault fell passed other Q
+load_fault Down P Q fell passed other calm weaker is = absurd is
+load_fault Full P Q fell passed other calm weaker is = absurd is
+load_fault Other P Q fell passed other calm weaker is = absurd is
+load_fault (Damaged at) P Q fell passed other calm weaker is = (calm, weaker at is)
+load_fault NoMemory P Q fell passed other calm weaker is = calm
 
-pub replay_refused : {X D : Type 0} (result : Result X (NodeFault × D)) (P Q : ℕ → Type 0) (failure : D → Type 0) (other : Type 0) → ((at : ℕ) → P at → Q at)
-    → IfErr result (λ (r : NodeFault × D). IsReplayFault r.0 P) → IfErr result (λ (r : NodeFault × D). IsLoadFault r.0 (failure r.1) other Q)
-replay_refused (Ok x) P Q failure other weaker is = tt
-replay_refused (Err r) P Q failure other weaker is = load_fault r.0 P Q (failure r.1) other weaker is
+pub replay_refused : {X D : Type 0} (result : Result X (NodeFault × D)) (own : D) (P Q : ℕ → Type 0) (fell passed : D → Type 0) (other : Type 0) → passed own → ((at : ℕ) → P at → Q at)
+    → IfErr result (λ (r : NodeFault × D). r.1 ≡ own)
+    → IfErr result (λ (r : NodeFault × D). IsReplayFault r.0 P) → IfErr result (λ (r : NodeFault × D). IsLoadFault r.0 (fell r.1) (passed r.1) other Q)
+replay_refused (Ok x) own P Q fell passed other calm weaker back is = tt
+replay_refused (Err r) own P Q fell passed other calm weaker back is = load_fault r.0 P Q (fell r.1) (passed r.1) other (subst passed (sym back) calm) weaker is
 
-weaker_fault : (fault : NodeFault) (before failure : Type 0) (other : Type 0) (P Q : ℕ → Type 0) → (before → failure) → ((at : ℕ) → P at → Q at)
-    → IsLoadFault fault before ⊥ P → IsLoadFault fault failure other Q
-weaker_fault Down before failure other P Q same weaker is = same is
-weaker_fault Full before failure other P Q same weaker is = absurd is
-weaker_fault Other before failure other P Q same weaker is = absurd is
-weaker_fault (Damaged at) before failure other P Q same weaker is = weaker at is
-weaker_fault NoMemory before failure other P Q same weaker is = tt
+weaker_fault : (fault : NodeFault) (before was failure passed other : Type 0) (P Q : ℕ → Type 0) → (before → failure) → (was → passed) → ((at : ℕ) → P at → Q at)
+    → IsLoadFault fault before was ⊥ P → IsLoadFault fault failure passed other Q
+weaker_fault Down before was failure passed other P Q fell calm weaker is = fell is
+weaker_fault Full before was failure passed other P Q fell calm weaker is = absurd is
+weaker_fault Other before was failure passed other P Q fell calm weaker is = absurd is.1
+weaker_fault (Damaged at) before was failure passed other P Q fell calm weaker is = (calm is.0, weaker at is.1)
+weaker_fault NoMemory before was failure passed other P Q fell calm weaker is = calm is
 
-pub load_refused : {X D : Type 0} (result : Result X (NodeFault × D)) (before failure : D → Type 0) (other : Type 0) (P Q : ℕ → Type 0) → ((d : D) → before d → failure d)
-    → ((at : ℕ) → P at → Q at)
-    → IfErr result (λ (r : NodeFault × D). IsLoadFault r.0 (before r.1) ⊥ P) → IfErr result (λ (r : NodeFault × D). IsLoadFault r.0 (failure r.1) other Q)
-load_refused (Ok x) before failure other P Q same weaker is = tt
-load_refused (Err r) before failure other P Q same weaker is = weaker_fault r.0 (before r.1) (failure r.1) other P Q (same r.1) weaker is
+pub load_refused : {X D : Type 0} (result : Result X (NodeFault × D)) (before was failure passed : D → Type 0) (other : Type 0) (P Q : ℕ → Type 0) → ((d : D) → before d → failure d)
+    → ((d : D) → was d → passed d) → ((at : ℕ) → P at → Q at)
+    → IfErr result (λ (r : NodeFault × D). IsLoadFault r.0 (before r.1) (was r.1) ⊥ P) → IfErr result (λ (r : NodeFault × D). IsLoadFault r.0 (failure r.1) (passed r.1) other Q)
+load_refused (Ok x) before was failure passed other P Q fell calm weaker is = tt
+load_refused (Err r) before was failure passed other P Q fell calm weaker is =
+    weaker_fault r.0 (before r.1) (was r.1) (failure r.1) (passed r.1) other P Q (fell r.1) (calm r.1) weaker is
 
 -- what was found makes a sound memory node
-module _ {D : Type 0} {G : Ghosts D} (tells : D → Type 0) (history : D → History) (s : Setup) (content : Content) (image : List ℕ) where
+module _ {D : Type 0} {G : Ghosts D} (tells : D → Type 0) (history : D → History) (health : D → Health) (s : Setup) (content : Content) (image : List ℕ) where
   sound_of : (node : MemNode D G) → IsFormatted s content → length image ≡ size_of s → Holds content 4096 image → node.memory.setup ≡ s
-      → (history node.log.disk).now.content ≡ content → IsOn tells history node image → IsSound tells history node
+      → (history node.log.disk).now.content ≡ content → IsOn tells history health node image → IsSound tells history health node
   sound_of node formatted sized stored own same on = record {
     image = image;
     bytes = on.bytes;
@@ -74,13 +77,13 @@ module _ {D : Type 0} {G : Ghosts D} (tells : D → Type 0) (history : D → His
     makes = on.makes;
   }
 
-  pub all_sound : {E : Type 0} (result : Result (MemNode D G) E) (Told None : Type 0) → (Told → IsFormatted s content) → length image ≡ size_of s → (Told → Holds content 4096 image)
-      → IfOk result (λ (node : MemNode D G). Told → None → IsOn tells history node image) → IfOk result (λ (node : MemNode D G). node.memory.setup ≡ s)
+  pub all_sound : {E : Type 0} (result : Result (MemNode D G) E) (Told Ready : Type 0) → (Ready → Told) → (Told → IsFormatted s content) → length image ≡ size_of s → (Told → Holds content 4096 image)
+      → IfOk result (λ (node : MemNode D G). Ready → IsOn tells history health node image) → IfOk result (λ (node : MemNode D G). node.memory.setup ≡ s)
       → IfOk result (λ (node : MemNode D G). Told → (history node.log.disk).now.content ≡ content)
-      → IfOk result (λ (node : MemNode D G). Told → None → IsSound tells history node)
-  all_sound (Ok node) Told None formatted sized stored on own same =
-      λ told none. sound_of node (formatted told) sized (stored told) own (same told) (on told none)
-  all_sound (Err e) Told None formatted sized stored on own same = tt
+      → IfOk result (λ (node : MemNode D G). Ready → IsSound tells history health node)
+  all_sound (Ok node) Told Ready tells_ formatted sized stored on own same =
+      λ ready. sound_of node (formatted (tells_ ready)) sized (stored (tells_ ready)) own (same (tells_ ready)) (on ready)
+  all_sound (Err e) Told Ready tells_ formatted sized stored on own same = tt
 
 pub ok_weaker : {X E : Type 0} (result : Result X E) (P Q : X → Type 0) → ((x : X) → P x → Q x) → IfOk result P → IfOk result Q
 ok_weaker (Ok x) P Q weaker is = weaker x is

@@ -57,14 +57,14 @@ IsReplayFault Other damage = ⊥
 IsReplayFault (Damaged at) damage = damage at
 IsReplayFault NoMemory damage = Unit {0}
 
--- why a memory node was not loaded: the disk failed; it is no disk of this memory node; its log is damaged, or has an
--- entry that is unfit; or there was no memory
-abbrev pub IsLoadFault : NodeFault → Type 0 → Type 0 → (ℕ → Type 0) → Type 0
-IsLoadFault Down failure other damage = failure
-IsLoadFault Full failure other damage = ⊥
-IsLoadFault Other failure other damage = other
-IsLoadFault (Damaged at) failure other damage = damage at
-IsLoadFault NoMemory failure other damage = Unit {0}
+-- why a memory node was not loaded: the disk failed; or no call failed, and it is no disk of this memory node, its
+-- log is damaged or has an entry that is unfit, or there was no memory
+abbrev pub IsLoadFault : NodeFault → Type 0 → Type 0 → Type 0 → (ℕ → Type 0) → Type 0
+IsLoadFault Down fell passed other damage = fell
+IsLoadFault Full fell passed other damage = ⊥
+IsLoadFault Other fell passed other damage = passed × other
+IsLoadFault (Damaged at) fell passed other damage = passed × damage at
+IsLoadFault NoMemory fell passed other damage = passed
 
 -- with this stored image the log is damaged at this place, or has an entry there that is unfit
 abbrev pub IsBrokenLog : Setup → Content → List ℕ → ℕ → Type 0

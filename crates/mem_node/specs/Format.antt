@@ -21,13 +21,13 @@ IsMarkAlone content image = (place : ℕ) → place ≢ 128 → image place ≡ 
 abbrev pub IsFormatting : Setup → Content → Content → Type 0
 IsFormatting s content image = IsMarkAlone content image ⊎ ((image 128 ≢ 1) ⊎ IsFresh s image)
 
--- why a disk was not formatted
-abbrev pub IsFormatFault : NodeFault → Type 0 → Type 0
-IsFormatFault Down failure = failure
-IsFormatFault Full failure = ⊥
-IsFormatFault Other failure = ⊥
-IsFormatFault (Damaged at) failure = ⊥
-IsFormatFault NoMemory failure = Unit {0}
+-- why a disk was not formatted: it failed, or there was no memory, and it is as it was
+abbrev pub IsFormatFault : NodeFault → Type 0 → Type 0 → Type 0
+IsFormatFault Down fell same = fell
+IsFormatFault Full fell same = ⊥
+IsFormatFault Other fell same = ⊥
+IsFormatFault (Damaged at) fell same = ⊥
+IsFormatFault NoMemory fell same = same
 
 -- the front of the first page, the image and a log without entries stand there, and the mark of a formatted disk
 pub record IsLaidOut (front stored : List ℕ) (image : Content) : Type 0 where

@@ -1,8 +1,8 @@
 -- A memory node as contracts see it, and how it stands on its disk.
 use Rattle.std.specs.Prelude.{◌≡◌, ◌⊎◌, ◌≤◌, ◌<◌, ◌+◌, ◌^◌, ℕ, Bool, List, [], ◌∷◌, ◌++◌, length, Option, Some, None, Result, OnOk, OnErr, IfErr, IsErrOf}
-use Rattle.disk_model.specs.Cause.{FailedFor}
 use Rattle.disk_model.specs.Crash.{Content, History, LeavesOnly}
 use Rattle.disk_model.specs.declared.disk.Disk.{Ghosts}
+use Rattle.disk_model.specs.Health.{Health, Fell, IsLive, Passed, Speaks}
 use Rattle.gate_log.specs.declared.log.Log.{Log}
 use Rattle.gate_log.specs.Log.{IsLog, end_of}
 use Rattle.mini_tx.specs.declared.entry.Entry.{Entry}
@@ -52,22 +52,24 @@ HasRoom log None = Unit {0}
 HasRoom log (Some e) = end_of log + 5 + length (entry_spelling e) < 2 ^ 32
 
 -- the disk below a log stands for this state: nothing is pending there, and the log may be appended to
-pub record IsSoundOn {D : Type 0} (tells : D → Type 0) (history : D → History) (s : Setup) (log : Log D) (state : State) : Type 0 where
+pub record IsSoundOn {D : Type 0} (tells : D → Type 0) (history : D → History) (health : D → Health)
+    (s : Setup) (log : Log D) (state : State) : Type 0 where
   pub image : List ℕ
   pub bytes : List (List ℕ)
-  pub logged : IsLog tells history log bytes
+  pub logged : IsLog tells history health log bytes
   pub has : Has s (history log.disk).now.content image bytes
   pub makes : Makes s image bytes state
 
 -- its log makes what it has of this stored image
-pub record IsOn {D : Type 0} {G : Ghosts D} (tells : D → Type 0) (history : D → History) (node : MemNode D G) (image : List ℕ) : Type 0 where
+pub record IsOn {D : Type 0} {G : Ghosts D} (tells : D → Type 0) (history : D → History) (health : D → Health)
+    (node : MemNode D G) (image : List ℕ) : Type 0 where
   pub bytes : List (List ℕ)
-  pub logged : IsLog tells history node.log bytes
+  pub logged : IsLog tells history health node.log bytes
   pub makes : Makes node.memory.setup image bytes (state_of node.memory)
 
 -- its disk stands for what it has
-abbrev pub IsSound : {D : Type 0} {G : Ghosts D} → (D → Type 0) → (D → History) → MemNode D G → Type 0
-IsSound tells history node = IsSoundOn tells history node.memory.setup node.log (state_of node.memory)
+abbrev pub IsSound : {D : Type 0} {G : Ghosts D} → (D → Type 0) → (D → History) → (D → Health) → MemNode D G → Type 0
+IsSound tells history health node = IsSoundOn tells history health node.memory.setup node.log (state_of node.memory)
 
 -- the disk stands for the state before an entry, or for the one after it
 abbrev pub IsBeforeOrAfter : Setup → State → Option Entry → Content → Type 0
@@ -85,29 +87,46 @@ IsVoteFault Other = ⊥
 IsVoteFault (Damaged at) = ⊥
 IsVoteFault NoMemory = Unit {0}
 
+-- how many writes and syncs an entry takes
+abbrev pub steps_of : Option Entry → ℕ
+steps_of None = 0
+steps_of (Some e) = 4
+
+-- a disk that can take it
+abbrev pub CanTake : Option Entry → Health → Type 0
+CanTake None health = Unit {0}
+CanTake (Some e) health = IsLive 4 health
+
 -- what a memory node does where a message makes it append this entry, or none
-pub record Handles {D X : Type 0} {G : Ghosts D} (tells : D → Type 0) (history : D → History) (faults : D → ℕ) (starved : D → Bool)
+pub record Handles {D X : Type 0} {G : Ghosts D} (tells : D → Type 0) (history : D → History) (health : D → Health)
     (before now : MemNode D G) (entry : Option Entry) (result : Result X NodeFault) : Type 0 where
   pub setup : now.memory.setup ≡ before.memory.setup
   -- after Ok it has what the entry makes; after a refusal what it had
   pub state : OnOk result (state_of now.memory ≡ after_one (state_of before.memory) entry)
   pub refused : OnErr result (state_of now.memory ≡ state_of before.memory)
   -- after Ok the entry stands in the log, and is safe: nothing is pending, and the disk stands for what it has
-  pub logged : OnOk result ((bytes : List (List ℕ)) → IsLog tells history before.log bytes → IsLog tells history now.log (bytes ++ appended entry))
-  pub sound : OnOk result (IsSound tells history before → IsSound tells history now)
+  pub logged : OnOk result ((bytes : List (List ℕ)) → IsLog tells history health before.log bytes
+      → IsLog tells history health now.log (bytes ++ appended entry))
+  pub sound : OnOk result (IsSound tells history health before → IsSound tells history health now)
   -- a crash at any moment leaves the state before, or the one after
-  pub any_moment : IsSound tells history before
-      → LeavesOnly (history before.log.disk) (history now.log.disk) (IsBeforeOrAfter before.memory.setup (state_of before.memory) entry)
+  pub any_moment : IsSound tells history health before
+      → LeavesOnly (history before.log.disk) (history now.log.disk)
+      (IsBeforeOrAfter before.memory.setup (state_of before.memory) entry)
+  -- after each answer the disk still tells what it holds, so it may be restarted and loaded
+  pub still : Speaks tells health before.log.disk → tells now.log.disk
   -- it answers Down only where the disk failed, now or in an earlier call
-  pub down : IsErrOf result Down → (before.shut ≡ Some shut.Down) ⊎ FailedFor (faults before.log.disk) (faults now.log.disk) (starved now.log.disk)
-  -- and Full exactly where the log has no room for the entry, or had none in an earlier call
+  pub down : IsErrOf result Down
+      → (before.shut ≡ Some shut.Down) ⊎ Fell 4 (health before.log.disk) (health now.log.disk)
+  -- and Full exactly where the log has no room for the entry, or had none in an earlier call; the log is then as before
   pub full : IsErrOf result Full → (before.shut ≡ Some shut.Full) ⊎ ¬ HasRoom before.log entry
   pub full_when : before.shut ≡ None → ¬ HasRoom before.log entry → IsErrOf result Full ⊎ IsErrOf result NoMemory
+  pub full_log : IsErrOf result Full → now.log ≡ before.log
   -- after want of memory the log is as before
   pub no_memory : IsErrOf result NoMemory → (now.log ≡ before.log) × (now.shut ≡ before.shut)
   pub causes : IfErr result IsVoteFault
   -- after Down and Full it has to be loaded again
   pub running : OnOk result (now.shut ≡ None)
   pub closes : (IsErrOf result Down → now.shut ≡ Some shut.Down) × (IsErrOf result Full → now.shut ≡ Some shut.Full)
-  pub counted : OnOk result (faults now.log.disk ≡ faults before.log.disk)
-  pub later : faults before.log.disk ≤ faults now.log.disk
+  -- after Ok no call failed, and a stop let the calls of the entry pass
+  pub passed : OnOk result (Passed (steps_of entry) (health before.log.disk) (health now.log.disk))
+  pub live : OnOk result (CanTake entry (health before.log.disk))

@@ -1,6 +1,7 @@
 ghost use Rattle.std.specs.Prelude.{◌≡◌, ◌≤◌, [], length, IfOk, OnOk};
-ghost use Rattle.disk_model.specs.Cause.{IsCounted};
+ghost use Rattle.disk_model.specs.Calls.{IsReady};
 ghost use Rattle.disk_model.specs.Crash.{LeavesOnly};
+ghost use Rattle.disk_model.specs.Health.{Hands};
 ghost use Rattle.mem_node.specs.Format.{IsLaying, IsDone, front_bytes};
 
 use crate::header::{FORMATTED, HEADER_AT, MARK_AT, header};
@@ -28,11 +29,12 @@ pub(crate) fn front(alloc: Global, setup: Setup) -> Result<Vec<u8>, NoMemory>
 pub(crate) fn write_node<D: Disk>(disk: &mut D, front: &[u8], image: &[u8]) -> Result<(), Failed>
     requires front { length front.now ≤ 128 }
     requires image { length image.now ≤ 69214208 }
-    ensures cause { IsCounted (D.faults disk.old) (D.faults disk.new) (D.is_starved disk.old) (D.is_starved disk.new) result }
-    ensures tells { D.tells disk.old → D.tells disk.new }
-    ensures ok { OnOk result (D.tells disk.old → (D.history disk.old).now.pending ≡ [] → IsDone front.now image.now (D.history disk.new).now) }
-    ensures any_moment { D.tells disk.old → (D.history disk.old).now.pending ≡ []
-        → LeavesOnly (D.history disk.old) (D.history disk.new) (IsLaying (D.history disk.old).now.content front.now image.now) }
+    ensures hands { Hands D.tells D.health 8 disk.old disk.new result }
+    ensures ok { OnOk result (IsReady D.tells D.history D.health disk.old
+        → IsDone front.now image.now (D.history disk.new).now) }
+    ensures any_moment { IsReady D.tells D.history D.health disk.old
+        → LeavesOnly (D.history disk.old) (D.history disk.new)
+        (IsLaying (D.history disk.old).now.content front.now image.now) }
 {
     write_through(disk, MARK_AT, &[UNFORMATTED])?;
     lay(disk, front, image)?;

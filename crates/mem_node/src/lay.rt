@@ -1,6 +1,6 @@
 ghost use Rattle.std.specs.Prelude.{◌≡◌, ◌≢◌, ◌⊎◌, ◌≤◌, ◌<◌, ◌+◌, ◌^◌, ◌∷◌, [], length, OnOk};
-ghost use Rattle.disk_model.specs.Cause.{IsCounted};
 ghost use Rattle.disk_model.specs.Crash.{LeavesOnly, put, written, settled};
+ghost use Rattle.disk_model.specs.Health.{Hands, Speaks};
 ghost use Rattle.mem_node.specs.Lay.{IsUnmarked, IsBeside, is_laid};
 
 use crate::load::IMAGE_AT;
@@ -15,21 +15,24 @@ const CLOSED: u8 = 0;
 fn write_beside<D: Disk>(disk: &mut D, at: u64, from: &[u8]) -> Result<(), Failed>
     requires fits { at + length from.now < 2 ^ 64 }
     requires beside { IsBeside at (length from.now) }
-    ensures cause { IsCounted (D.faults disk.old) (D.faults disk.new) (D.is_starved disk.old) (D.is_starved disk.new) result }
-    ensures tells { D.tells disk.old → D.tells disk.new }
-    ensures ok { OnOk result (D.tells disk.old → (D.history disk.new).now ≡ written (D.history disk.old).now at from.now) }
-    ensures unmarked { OnOk result (D.tells disk.old → IsUnmarked (D.history disk.old).now → IsUnmarked (D.history disk.new).now) }
-    ensures any_moment { D.tells disk.old → IsUnmarked (D.history disk.old).now → LeavesOnly (D.history disk.old) (D.history disk.new) (λ image. image 128 ≢ 1) }
+    ensures hands { Hands D.tells D.health 1 disk.old disk.new result }
+    ensures ok { OnOk result (Speaks D.tells D.health disk.old
+        → (D.history disk.new).now ≡ written (D.history disk.old).now at from.now) }
+    ensures unmarked { OnOk result (Speaks D.tells D.health disk.old
+        → IsUnmarked (D.history disk.old).now → IsUnmarked (D.history disk.new).now) }
+    ensures any_moment { Speaks D.tells D.health disk.old → IsUnmarked (D.history disk.old).now
+        → LeavesOnly (D.history disk.old) (D.history disk.new) (λ image. image 128 ≢ 1) }
 {
     disk.write(at, from)
 }
 
 /// Makes what was written beside the mark safe.
 fn sync_beside<D: Disk>(disk: &mut D) -> Result<(), Failed>
-    ensures cause { IsCounted (D.faults disk.old) (D.faults disk.new) (D.is_starved disk.old) (D.is_starved disk.new) result }
-    ensures tells { D.tells disk.old → D.tells disk.new }
-    ensures ok { OnOk result (D.tells disk.old → (D.history disk.new).now ≡ settled (D.history disk.old).now.content) }
-    ensures any_moment { D.tells disk.old → IsUnmarked (D.history disk.old).now → LeavesOnly (D.history disk.old) (D.history disk.new) (λ image. image 128 ≢ 1) }
+    ensures hands { Hands D.tells D.health 1 disk.old disk.new result }
+    ensures ok { OnOk result (Speaks D.tells D.health disk.old
+        → (D.history disk.new).now ≡ settled (D.history disk.old).now.content) }
+    ensures any_moment { Speaks D.tells D.health disk.old → IsUnmarked (D.history disk.old).now
+        → LeavesOnly (D.history disk.old) (D.history disk.new) (λ image. image 128 ≢ 1) }
 {
     disk.sync()
 }
@@ -39,11 +42,11 @@ fn sync_beside<D: Disk>(disk: &mut D) -> Result<(), Failed>
 pub(crate) fn lay<D: Disk>(disk: &mut D, front: &[u8], image: &[u8]) -> Result<(), Failed>
     requires front { length front.now ≤ 128 }
     requires image { length image.now ≤ 69214208 }
-    ensures cause { IsCounted (D.faults disk.old) (D.faults disk.new) (D.is_starved disk.old) (D.is_starved disk.new) result }
-    ensures tells { D.tells disk.old → D.tells disk.new }
-    ensures ok { OnOk result (D.tells disk.old → IsUnmarked (D.history disk.old).now
+    ensures hands { Hands D.tells D.health 4 disk.old disk.new result }
+    ensures ok { OnOk result (Speaks D.tells D.health disk.old → IsUnmarked (D.history disk.old).now
         → (D.history disk.new).now ≡ settled (is_laid (D.history disk.old).now.content front.now image.now)) }
-    ensures any_moment { D.tells disk.old → IsUnmarked (D.history disk.old).now → LeavesOnly (D.history disk.old) (D.history disk.new) (λ image. image 128 ≢ 1) }
+    ensures any_moment { Speaks D.tells D.health disk.old → IsUnmarked (D.history disk.old).now
+        → LeavesOnly (D.history disk.old) (D.history disk.new) (λ image. image 128 ≢ 1) }
 {
     write_beside(disk, 0, front)?;
     write_beside(disk, IMAGE_AT, image)?;

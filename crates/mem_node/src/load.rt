@@ -1,6 +1,6 @@
 ghost use Rattle.std.specs.Prelude.{◌≡◌, ◌≤◌, ◌<◌, ◌^◌, ◌↔◌, ℕ, [], length, vec_len, IsTrue, IfOk, IfErr, OnOk};
 ghost use Rattle.disk_model.specs.Crash.{Holds};
-ghost use Rattle.disk_model.specs.Cause.{FailedFor, IsCounted};
+ghost use Rattle.disk_model.specs.Health.{Fell, IsLive, Passed, Speaks};
 ghost use Rattle.disk_model.specs.LogBytes.{log_bytes};
 ghost use Rattle.mem_node.specs.Header.{IsFormatted};
 ghost use Rattle.mem_node.specs.Fit.{IsSetup, size_of};
@@ -34,12 +34,15 @@ pub(crate) fn image_bytes(setup: Setup) -> u32
 
 /// Whether the disk is formatted, for this memory node of this cluster.
 fn is_formatted<D: Disk>(alloc: Global, disk: &mut D, setup: Setup) -> Result<bool, NodeFault>
-    ensures told { IfOk result (λ formatted. D.tells disk.old → IsTrue formatted ↔ IsFormatted setup (D.history disk.old).now.content) }
-    ensures refused { IfErr result (λ fault. IsLoadFault fault (FailedFor (D.faults disk.old) (D.faults disk.new) (D.is_starved disk.new)) ⊥ (λ at. ⊥)) }
-    ensures tells { D.tells disk.old → D.tells disk.new }
-    ensures kept { D.tells disk.old → D.history disk.new ≡ D.history disk.old }
-    ensures counted { OnOk result (D.faults disk.new ≡ D.faults disk.old) }
-    ensures later { D.faults disk.old ≤ D.faults disk.new }
+    ensures told { IfOk result (λ formatted. Speaks D.tells D.health disk.old
+        → IsTrue formatted ↔ IsFormatted setup (D.history disk.old).now.content) }
+    ensures refused { IfErr result (λ fault. IsLoadFault fault
+        (Fell 0 (D.health disk.old) (D.health disk.new)) (Passed 0 (D.health disk.old) (D.health disk.new))
+        ⊥ (λ at. ⊥)) }
+    ensures still { Speaks D.tells D.health disk.old → D.tells disk.new }
+    ensures kept { Speaks D.tells D.health disk.old → D.history disk.new ≡ D.history disk.old }
+    ensures passed { OnOk result (Passed 0 (D.health disk.old) (D.health disk.new)) }
+    ensures live { OnOk result (IsLive 0 (D.health disk.old)) }
 {
     let wanted = header(alloc, setup)?;
     let mut found = [0; 32];
@@ -56,15 +59,18 @@ pub(crate) fn stored_image<D: Disk>(
     setup: Setup,
 ) -> Result<Vec<u8>, NodeFault>
     requires { IsSetup setup }
-    ensures formatted { OnOk result (D.tells disk.old → IsFormatted setup (D.history disk.old).now.content) }
-    ensures stored { IfOk result (λ image. D.tells disk.old → Holds (D.history disk.old).now.content 4096 image.items) }
+    ensures formatted { OnOk result (Speaks D.tells D.health disk.old
+        → IsFormatted setup (D.history disk.old).now.content) }
+    ensures stored { IfOk result (λ image. Speaks D.tells D.health disk.old
+        → Holds (D.history disk.old).now.content 4096 image.items) }
     ensures sized { IfOk result (λ image. vec_len image ≡ size_of setup) }
-    ensures refused { IfErr result (λ fault. IsLoadFault fault (FailedFor (D.faults disk.old) (D.faults disk.new) (D.is_starved disk.new))
-        (D.tells disk.old → IsFormatted setup (D.history disk.old).now.content → ⊥) (λ at. ⊥)) }
-    ensures tells { D.tells disk.old → D.tells disk.new }
-    ensures kept { D.tells disk.old → D.history disk.new ≡ D.history disk.old }
-    ensures counted { OnOk result (D.faults disk.new ≡ D.faults disk.old) }
-    ensures later { D.faults disk.old ≤ D.faults disk.new }
+    ensures refused { IfErr result (λ fault. IsLoadFault fault
+        (Fell 0 (D.health disk.old) (D.health disk.new)) (Passed 0 (D.health disk.old) (D.health disk.new))
+        (Speaks D.tells D.health disk.old → IsFormatted setup (D.history disk.old).now.content → ⊥) (λ at. ⊥)) }
+    ensures still { Speaks D.tells D.health disk.old → D.tells disk.new }
+    ensures kept { Speaks D.tells D.health disk.old → D.history disk.new ≡ D.history disk.old }
+    ensures passed { OnOk result (Passed 0 (D.health disk.old) (D.health disk.new)) }
+    ensures live { OnOk result (IsLive 0 (D.health disk.old)) }
 {
     if !is_formatted(alloc, disk, setup)? {
         return Err(NodeFault::Other);

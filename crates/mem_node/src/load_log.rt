@@ -1,6 +1,7 @@
 ghost use Rattle.std.specs.Prelude.{◌≡◌, ◌≤◌, ◌^◌, ◌<◌, ℕ, false, [], None, length, vec_len, IfOk, IfErr};
-ghost use Rattle.disk_model.specs.Cause.{FailedFor};
+ghost use Rattle.disk_model.specs.Calls.{IsReady};
 ghost use Rattle.disk_model.specs.Crash.{Holds};
+ghost use Rattle.disk_model.specs.Health.{Fell, Passed, Speaks};
 ghost use Rattle.disk_model.specs.LogBytes.{log_bytes, IsDamaged};
 ghost use Rattle.gate_log.specs.Log.{IsLog, base_of, has_failed, disk_of};
 ghost use Rattle.mem_node.specs.Disk.{IsLoadFault, IsReplayFault, IsUnfit, IsBrokenLog, Makes};
@@ -26,15 +27,19 @@ pub(crate) fn load_log<D: Disk>(
 ) -> Result<MemNode<D>, (NodeFault, D)>
     requires sized { vec_len image ≡ size_of setup }
     requires small { vec_len image ≤ 69214208 }
-    ensures made { IfOk result (λ node. D.tells disk → (D.history disk).now.pending ≡ [] → IsOn D.tells D.history node image.items) }
+    ensures made { IfOk result (λ node. IsReady D.tells D.history D.health disk
+        → IsOn D.tells D.history D.health node image.items) }
     ensures setup { IfOk result (λ node. setup_of node ≡ setup) }
     ensures running { IfOk result (λ node. shut_of node ≡ None) }
-    ensures refused { IfErr result (λ refusal. IsLoadFault refusal.0 (FailedFor (D.faults disk) (D.faults refusal.1) (D.is_starved refusal.1)) ⊥
-        (λ at. D.tells disk → (D.history disk).now.pending ≡ [] → IsBrokenLog setup (D.history disk).now.content image.items at)) }
-    ensures same { IfOk result (λ node. D.tells disk → D.tells (node_disk_of node) × (D.history (node_disk_of node) ≡ D.history disk)) }
-    ensures same_err { IfErr result (λ refusal. D.tells disk → D.tells refusal.1 × (D.history refusal.1 ≡ D.history disk)) }
-    ensures kept { IfOk result (λ node. D.faults (node_disk_of node) ≡ D.faults disk) }
-    ensures later { IfErr result (λ refusal. D.faults disk ≤ D.faults refusal.1) }
+    ensures refused { IfErr result (λ refusal. IsLoadFault refusal.0
+        (Fell 0 (D.health disk) (D.health refusal.1)) (Passed 0 (D.health disk) (D.health refusal.1)) ⊥
+        (λ at. IsReady D.tells D.history D.health disk
+        → IsBrokenLog setup (D.history disk).now.content image.items at)) }
+    ensures same { IfOk result (λ node. Speaks D.tells D.health disk
+        → D.tells (node_disk_of node) × (D.history (node_disk_of node) ≡ D.history disk)) }
+    ensures same_err { IfErr result (λ refusal. Speaks D.tells D.health disk
+        → D.tells refusal.1 × (D.history refusal.1 ≡ D.history disk)) }
+    ensures passed { IfOk result (λ node. Passed 0 (D.health disk) (D.health (node_disk_of node))) }
 {
     match Log::load(alloc, disk, LOG_AT) {
         Ok((log, entries)) => replayed(alloc, log, &entries, setup, image),

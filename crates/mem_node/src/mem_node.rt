@@ -30,9 +30,10 @@ pub struct MemNode<D: Disk> {
 
 impl<D: Disk> MemNode<D> {
     ghost use Rattle.std.specs.Prelude.{◌≤◌, ◌&&◌, [], ◌∷◌, Some, IfOk, IfErr, OnOk, IsErrOf};
+    ghost use Rattle.disk_model.specs.Calls.{IsReady};
     ghost use Rattle.disk_model.specs.Crash.{LeavesOnly};
+    ghost use Rattle.disk_model.specs.Health.{Fell, IsLive, Passed, Speaks};
     ghost use Rattle.mem_node.specs.Format.{IsFresh, IsFormatting, IsFormatFault};
-    ghost use Rattle.disk_model.specs.Cause.{FailedFor};
     ghost use Rattle.mem_node.specs.Header.{IsFormatted};
     ghost use Rattle.mem_node.specs.Disk.{IsLoadFault, IsBroken};
     ghost use Rattle.mini_tx.specs.declared.message.Message.TheVariants.{Voted};
@@ -51,14 +52,16 @@ impl<D: Disk> MemNode<D> {
     /// no memory, and the disk is as it was.
     pub fn format(alloc: Global, disk: &mut D, setup: Setup) -> Result<(), NodeFault>
         requires { IsSetup setup }
-        ensures fresh { OnOk result (D.tells disk.old → (D.history disk.old).now.pending ≡ []
-            → IsFresh setup (D.history disk.new).now.content × ((D.history disk.new).now.pending ≡ [])) }
-        ensures any_moment { D.tells disk.old → (D.history disk.old).now.pending ≡ []
-            → LeavesOnly (D.history disk.old) (D.history disk.new) (IsFormatting setup (D.history disk.old).now.content) }
-        ensures refused { IfErr result (λ fault. IsFormatFault fault (FailedFor (D.faults disk.old) (D.faults disk.new) (D.is_starved disk.new))) }
-        ensures tells { D.tells disk.old → D.tells disk.new }
-        ensures kept { OnOk result (D.faults disk.new ≡ D.faults disk.old) }
-        ensures later { D.faults disk.old ≤ D.faults disk.new }
+        ensures fresh { OnOk result (IsReady D.tells D.history D.health disk.old
+            → IsFresh setup (D.history disk.new).now.content × IsReady D.tells D.history D.health disk.new) }
+        ensures any_moment { IsReady D.tells D.history D.health disk.old
+            → LeavesOnly (D.history disk.old) (D.history disk.new)
+            (IsFormatting setup (D.history disk.old).now.content) }
+        ensures still { Speaks D.tells D.health disk.old → D.tells disk.new }
+        ensures refused { IfErr result (λ fault. IsFormatFault fault
+            (Fell 8 (D.health disk.old) (D.health disk.new)) (disk.new ≡ disk.old)) }
+        ensures passed { OnOk result (Passed 8 (D.health disk.old) (D.health disk.new)) }
+        ensures live { OnOk result (IsLive 8 (D.health disk.old)) }
     {
         let image = fresh(alloc, setup)?;
         let front = front(alloc, setup)?;
@@ -75,18 +78,22 @@ impl<D: Disk> MemNode<D> {
     pub fn load(alloc: Global, disk: D, setup: Setup) -> Result<MemNode<D>, (NodeFault, D)>
         requires { IsSetup setup }
         // It has what the log that is found makes of the stored image, and the disk stands for that.
-        ensures sound { IfOk result (λ node. D.tells disk → (D.history disk).now.pending ≡ [] → IsSound D.tells D.history node) }
+        ensures sound { IfOk result (λ node. IsReady D.tells D.history D.health disk
+            → IsSound D.tells D.history D.health node) }
         ensures setup { IfOk result (λ node. setup_of node ≡ setup) }
         ensures running { IfOk result (λ node. shut_of node ≡ None) }
-        ensures refused { IfErr result (λ refusal. IsLoadFault refusal.0 (FailedFor (D.faults disk) (D.faults refusal.1) (D.is_starved refusal.1))
-            (D.tells disk → IsFormatted setup (D.history disk).now.content → ⊥)
-            (λ at. D.tells disk → (D.history disk).now.pending ≡ [] → IsBroken setup (D.history disk).now.content at)) }
+        ensures refused { IfErr result (λ refusal. IsLoadFault refusal.0
+            (Fell 0 (D.health disk) (D.health refusal.1)) (Passed 0 (D.health disk) (D.health refusal.1))
+            (Speaks D.tells D.health disk → IsFormatted setup (D.history disk).now.content → ⊥)
+            (λ at. IsReady D.tells D.history D.health disk → IsBroken setup (D.history disk).now.content at)) }
 
         // The disk is as it was, so a crash at any moment leaves what it left before.
-        ensures same { IfOk result (λ node. D.tells disk → D.tells (node_disk_of node) × (D.history (node_disk_of node) ≡ D.history disk)) }
-        ensures same_err { IfErr result (λ refusal. D.tells disk → D.tells refusal.1 × (D.history refusal.1 ≡ D.history disk)) }
-        ensures kept { IfOk result (λ node. D.faults (node_disk_of node) ≡ D.faults disk) }
-        ensures later { IfErr result (λ refusal. D.faults disk ≤ D.faults refusal.1) }
+        ensures same { IfOk result (λ node. Speaks D.tells D.health disk
+            → D.tells (node_disk_of node) × (D.history (node_disk_of node) ≡ D.history disk)) }
+        ensures same_err { IfErr result (λ refusal. Speaks D.tells D.health disk
+            → D.tells refusal.1 × (D.history refusal.1 ≡ D.history disk)) }
+        ensures passed { IfOk result (λ node. Passed 0 (D.health disk) (D.health (node_disk_of node))) }
+        ensures live { OnOk result (IsLive 0 (D.health disk)) }
     {
         let mut disk = disk;
         match stored_image(alloc, &mut disk, setup) {
@@ -104,7 +111,7 @@ impl<D: Disk> MemNode<D> {
 
     /// Whether the disk once found no memory. It takes no memory.
     pub fn starved(&self) -> bool
-        ensures { result ≡ D.is_starved (node_disk_of self.now) }
+        ensures { result ≡ (D.health (node_disk_of self.now)).is_starved }
     {
         self.log.starved()
     }
@@ -121,8 +128,10 @@ impl<D: Disk> MemNode<D> {
         requires fit { IsFitMessage (setup_of self.old) message.now }
         requires built { IsBuilt (setup_of self.old) message.now }
         ensures answer { IfOk result (λ answer. answer ≡ (react (node_of self.old) message.now).answer) }
-        ensures handled { Handles D.tells D.history D.faults D.is_starved self.old self.new (react (node_of self.old) message.now).entry result }
-        ensures shut { (shut : _) → shut_of self.old ≡ Some shut → IsErrOf result (shut_fault shut) × (self.new ≡ self.old) }
+        ensures handled { Handles D.tells D.history D.health self.old self.new
+            (react (node_of self.old) message.now).entry result }
+        ensures shut { (shut : _) → shut_of self.old ≡ Some shut
+            → IsErrOf result (shut_fault shut) × (self.new ≡ self.old) }
     {
         let _from = from;
         if let Some(shut) = self.shut {
@@ -145,7 +154,8 @@ impl<D: Disk> MemNode<D> {
         requires running { shut_of self.old ≡ None }
         requires fit { IsFitPrepare (setup_of self.old) id ((setup_of self.old).index ∷ []) items.now }
         ensures answer { IfOk result (λ vote. (reaction_to self.old id items.now).answer ≡ Some (Voted id vote)) }
-        ensures handled { Handles D.tells D.history D.faults D.is_starved self.old self.new (reaction_to self.old id items.now).entry result }
+        ensures handled { Handles D.tells D.history D.health self.old self.new
+            (reaction_to self.old id items.now).entry result }
     {
         let ballot = self.ballot(id, items)?;
         if ballot.has_entry {
@@ -174,7 +184,7 @@ impl<D: Disk> MemNode<D> {
         requires running { shut_of self.old ≡ None }
         requires cast { IsCast (setup_of self.old) id items.now vote }
         ensures answer { IfOk result (λ told. told ≡ vote) }
-        ensures handled { Handles D.tells D.history D.faults D.is_starved self.old self.new
+        ensures handled { Handles D.tells D.history D.health self.old self.new
             (Some (entry_of_vote id ((setup_of self.old).index ∷ []) items.now vote)) result }
     {
         id_is_typed(id);
@@ -192,7 +202,7 @@ impl<D: Disk> MemNode<D> {
         requires typed { IsTypedEntry entry }
         requires fit { IsFit (setup_of self.old) (node_state_of self.old) entry }
         requires plain { IsPlain entry }
-        ensures { Handles D.tells D.history D.faults D.is_starved self.old self.new (Some entry) result }
+        ensures { Handles D.tells D.history D.health self.old self.new (Some entry) result }
     {
         let bytes = write_entry(self.alloc, &entry)?;
         if let Err(fault) = self.log.append(&bytes) {
@@ -205,20 +215,18 @@ impl<D: Disk> MemNode<D> {
 }
 
 impl<D: Disk> MemNode<Stop<D>> {
-    ghost use Rattle.std.specs.Prelude.{◌↔◌, Some, IsTrue};
-    ghost use Rattle.disk_model.specs.Stop.{disk_of as stopped_disk_of, left_of, refused_of};
+    ghost use Rattle.std.specs.Prelude.{◌≢◌, ◌↔◌, Some, IsTrue};
+    ghost use Rattle.disk_model.specs.Stop.{left_of};
     ghost use Rattle.mem_node.specs.Node.{log_of, node_disk_of, node_of, setup_of, shut_of};
 
     /// From now on this many writes and syncs pass to the disk below, or all of them. It takes no memory.
     pub fn stop_after(&mut self, calls: Option<u32>)
-        requires { left_of (node_disk_of self.old) ≡ Some 0 → ⊥ }
-        ensures left { left_of (node_disk_of self.new) ≡ calls }
-        ensures disk { stopped_disk_of (node_disk_of self.new) ≡ stopped_disk_of (node_disk_of self.old) }
-        ensures refused { refused_of (node_disk_of self.new) ≡ refused_of (node_disk_of self.old) }
+        requires { left_of (node_disk_of self.old) ≢ Some 0 }
         ensures node { node_of self.new ≡ node_of self.old }
         ensures setup { setup_of self.new ≡ setup_of self.old }
         ensures shut { shut_of self.new ≡ shut_of self.old }
-        ensures log { log_of self.new ≡ record (log_of self.old) { disk = node_disk_of self.new } }
+        ensures log { log_of self.new
+            ≡ record (log_of self.old) { disk = record (node_disk_of self.old) { left = calls } } }
     {
         self.log.stop_after(calls);
     }

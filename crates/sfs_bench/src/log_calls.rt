@@ -1,4 +1,5 @@
-//! Appends to a log on a disk in memory, and loads of it, for two numbers of entries.
+//! Appends to a log on a disk in memory, and loads of it, for two numbers of entries; and the calls of the
+//! disk that a load makes.
 
 use disk_model::{Calls, Disk, Entries, PlanDisk};
 use gate_log::{Log, LogFault};
@@ -28,10 +29,14 @@ fn time_log<R: Print + Clock + AllocGlobal>(rt: &R, count: u32) -> io::Result<()
     let took = start.elapsed(rt)?.as_nanos();
     println!(rt; "append_{count} {took} {count} {count}")?;
     let disk = log.into_disk();
+    let made = disk.calls();
     let start = Instant::now(rt)?;
-    let (_log, entries) = load(rt, disk).map_err(refused)?;
+    let (log, entries) = load(rt, disk).map_err(refused)?;
     let took = start.elapsed(rt)?.as_nanos();
-    println!(rt; "load_{count} {took} {count} {}", entries.len())
+    println!(rt; "load_{count} {took} {count} {}", entries.len())?;
+    let calls = log.into_disk().calls().saturating_sub(made);
+    println!(rt; "calls_of_load_{count} {calls} 1 {}", entries.len())?;
+    println!(rt; "entries_{count} {} 1 0", entries.len())
 }
 
 /// The log at the start of this disk.

@@ -1,25 +1,46 @@
-use Rattle.std.proofs.Common.{◌≡◌, ℕ, ◌+◌, List, length, sym, subst, ◌∙◌, arith, rules}
-use Rattle.std.proofs.lemmas.List.{take_at}
-use Rattle.std.proofs.lemmas.Result.{err_from_is_err_and}
+use Rattle.std.proofs.Common.{◌≡◌, ◌+◌, ℕ, List, refl, sym, subst}
 use Rattle.disk_model.specs.Crash.{History, Holds}
 use Rattle.disk_model.specs.LogBytes.{entry_bytes}
-use Rattle.gate_log.specs.Entries.{IsLength}
-use Rattle.gate_log.proofs.ScanLemmas.{entry_found}
+use Rattle.disk_model.proofs.HealthLemmas.{speaks_passed}
+use Rattle.gate_log.proofs.ScanLemmas.{entry_found, holds_seen}
 use Rattle.gate_log.proofs.scan.next_entry.Goals as goal
 
-pub returns-in_err-length-clause-refused : goal.returns-in_err-length-clause-refused
-returns-in_err-length-clause-refused g c =
-    let p = err_from_is_err_and c.from_residual.result c.from_residual.ensures.1 in rw (p.1, p.2) c.in_err-length.ensures.refused
-
-pub returns-clause-found : goal.returns-clause-found
-returns-clause-found g c told =
+pub returns-in-Closed-clause-found : goal.returns-in-Closed-clause-found
+returns-in-Closed-clause-found g c speaks current =
     let content = (g.D.Disk.history c.args.disk.now).now.content in
-    let opened = subst (IsLength content c.args.base c.args.end) c.in-Some.is (c.in_ok-length.ensures.found told) in
-    let read = c.in_ok-read.ensures.given (c.in_ok-length.ensures.tells told) in
-    let body : Holds content (c.args.base + c.args.end + 5) c.read.new.into =
-    subst (λ (h : History). Holds h.now.content (c.args.base + c.args.end + 5) c.read.new.into) (c.in_ok-length.ensures.kept told) read in
-    let size : length c.read.new.into ≡ c.in_ok-bytes.bytes.len = search rules in
-    let is : c.from.result ≡ c.read.new.into = c.from.ensures ∙ take_at c.read.new.into _ c.in_ok-bytes.bytes.len size in
-    let count : length c.read.new.into ≡ c.in-Some.length = search rules in
-    subst (λ (b : List ℕ). Holds content (c.args.base + c.args.end) (entry_bytes b)) (sym is)
-    (entry_found content (c.args.base + c.args.end) (c.args.base + c.args.end + 5) c.in-Some.length c.read.new.into opened.0 opened.1 (omega arith) body count)
+    let gate = c.args.base + c.args.end in
+    c.in-Closed.ensures.stands content gate (subst (Holds content gate) (sym c.from-read.ensures)
+    (holds_seen content c.reach.new.self gate (c.in_ok-reach.ensures.current speaks current)))
+
+pub returns-in-Damaged-clause-reads : goal.returns-in-Damaged-clause-reads
+returns-in-Damaged-clause-reads g c =
+    let content = (g.D.Disk.history c.args.disk.now).now.content in
+    let gate = c.args.base + c.args.end in
+    record {
+      still = c.in_ok-reach.ensures.reads.still;
+      kept = c.in_ok-reach.ensures.reads.kept;
+      passed = tt;
+      refused = (
+        c.in_ok-reach.ensures.reads.passed,
+        (
+          refl,
+          λ speaks current.
+              c.in-Damaged.ensures.stands content gate (subst (Holds content gate) (sym c.from-read.ensures)
+              (holds_seen content c.reach.new.self gate (c.in_ok-reach.ensures.current speaks current))),
+        ),
+      );
+    }
+
+pub returns-in_ok-entry_behind-in-Open-clause-found : goal.returns-in_ok-entry_behind-in-Open-clause-found
+returns-in_ok-entry_behind-in-Open-clause-found g c speaks current =
+    let content = (g.D.Disk.history c.args.disk.now).now.content in
+    let gate = c.args.base + c.args.end in
+    let entry = c.in_ok-entry_behind-in-Open.field-0 in
+    let reads = c.in_ok-reach.ensures.reads in
+    let holds = subst (Holds content gate) (sym c.from-read.ensures)
+    (holds_seen content c.reach.new.self gate (c.in_ok-reach.ensures.current speaks current)) in
+    let stands = c.in-Open.ensures.stands content gate holds in
+    let told = speaks_passed g.D.Disk.tells g.D.Disk.health 0 c.args.disk.now c.reach.new.disk reads.passed reads.still speaks in
+    let body : Holds content (gate + 5) entry = subst (λ (h : History). Holds h.now.content (gate + 5) entry) (reads.kept speaks)
+    (c.in_ok-entry_behind-in-Open.ensures.held told (subst (λ (h : History). Holds h.now.content gate c.from-read.result.now) (sym (reads.kept speaks)) holds)) in
+    entry_found content gate (gate + 5) c.in-Open.length entry stands.0 stands.1 refl body c.in_ok-entry_behind-in-Open.ensures.long

@@ -1,8 +1,10 @@
-use Rattle.std.proofs.lemmas.Result.{on_ok_weaker}
-use Rattle.disk_model.specs.declared.change.Change.TheVariants.{Synced}
-use Rattle.disk_model.proofs.PlanLemmas.{ok_along, history_more}
+use Rattle.std.proofs.Common.{arith, rules}
+use Rattle.std.proofs.lemmas.Grind.{common_steps}
+use Rattle.disk_model.proofs.PlanLemmas.{sync_by}
 use Rattle.disk_model.proofs.plan_disk.PlanDiskDisk.sync.Goals as goal
 
-pub returns-clause-ok : goal.returns-clause-ok
-returns-clause-ok c = on_ok_weaker c.finish.result (λ more told. rw (← c.self.view_is) (history_more c.self.inside.store.changes.items c.sync-done.new.self.changes.items Synced more))
-    (ok_along _ c.sync-done.result c.finish.result c.finish.ensures.same c.sync-done.ensures.ok)
+pub returns-clause-disk : goal.returns-clause-disk
+returns-clause-disk c = sync_by c.args.self.now _ c.finish.result (grind (arith, common_steps)) record {
+  ok = grind (arith, common_steps);
+  err = grind (arith, common_steps);
+}

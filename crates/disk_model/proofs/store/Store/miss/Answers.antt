@@ -1,10 +1,10 @@
 use Rattle.disk_model.specs.Frames.{bytes_of}
-use Rattle.disk_model.specs.Plan.{blank, course_of}
-use Rattle.disk_model.proofs.StoreLemmas.{course_more, kept_miss}
+use Rattle.disk_model.specs.Plan.{blank, history_of}
+use Rattle.disk_model.proofs.StoreLemmas.{history_more, kept_miss}
 use Rattle.disk_model.proofs.store.Store.miss.Goals as goal
 
 pub returns-clause-stands : goal.returns-clause-stands
 returns-clause-stands c kept =
-    rw (c.in_ok-push.ensures.items, c.in_ok-push-2.ensures.items, course_more blank c.args.self.now.changes.items _)
-    (kept_miss (bytes_of c.args.self.now.frames) c.args.self.now.pending.items (course_of c.args.self.now.changes.items) kept
+    rw (c.in_ok-push.ensures.items, c.in_ok-push-2.ensures.items, history_more blank c.args.self.now.changes.items _)
+    (kept_miss (bytes_of c.args.self.now.frames) c.args.self.now.pending.items (history_of c.args.self.now.changes.items) kept
     c.in_ok-old.old c.args.at c.args.length c.in_ok-old.ensures.at c.in_ok-old.ensures.len c.in_ok-old.ensures.bytes)

@@ -11,12 +11,12 @@ use Rattle.mem_node.proofs.mem_node.MemNode.cast.Goals as goal
 pub returns-in_err-told-clause-handled : goal.returns-in_err-told-clause-handled
 returns-in_err-told-clause-handled g c =
     let p = err_from_is_err_and c.from_residual.result c.from_residual.ensures.1 in
-    rw (p.1, p.2) (nothing g.D.Disk.tells g.D.Disk.history g.D.Disk.faults g.D.Disk.is_starved c.args.self.now _ _ record { memory = refl; log = refl; shut = refl })
+    rw (p.1, p.2) (nothing g.D.Disk.tells g.D.Disk.history g.D.Disk.health c.args.self.now _ _ record { memory = refl; log = refl; shut = refl })
 
 pub returns-in_err-entry-clause-handled : goal.returns-in_err-entry-clause-handled
 returns-in_err-entry-clause-handled g c =
     let p = err_from_is_err_and c.from_residual-in_err-entry.result c.from_residual-in_err-entry.ensures.1 in
-    rw (p.1, p.2) (nothing g.D.Disk.tells g.D.Disk.history g.D.Disk.faults g.D.Disk.is_starved c.args.self.now _ _ record { memory = refl; log = refl; shut = refl })
+    rw (p.1, p.2) (nothing g.D.Disk.tells g.D.Disk.history g.D.Disk.health c.args.self.now _ _ record { memory = refl; log = refl; shut = refl })
 
 pub take-requires-clause-spelled : goal.take-requires-clause-spelled
 take-requires-clause-spelled g c =
@@ -44,12 +44,12 @@ pub returns-in_err-take-clause-handled : goal.returns-in_err-take-clause-handled
 returns-in_err-take-clause-handled g c =
     let p = err_from_is_err_and c.from_residual-in_err-take.result c.from_residual-in_err-take.ensures.1 in
     rw (p.1, p.2)
-    (subst (λ (e : Entry). Handles {X = Vote} g.D.Disk.tells g.D.Disk.history g.D.Disk.faults g.D.Disk.is_starved c.args.self.now c.take.new.self (Some e) (Err c.in_err-take.field-0.0))
+    (subst (λ (e : Entry). Handles {X = Vote} g.D.Disk.tells g.D.Disk.history g.D.Disk.health c.args.self.now c.take.new.self (Some e) (Err c.in_err-take.field-0.0))
     (c.in_ok-entry.ensures c.args.self.now.memory.setup.index)
-    (handles_err g.D.Disk.tells g.D.Disk.history g.D.Disk.faults g.D.Disk.is_starved c.args.self.now c.take.new.self (Some c.in_ok-entry.entry) c.in_err-take.field-0.0 c.in_err-take.ensures))
+    (handles_err g.D.Disk.tells g.D.Disk.history g.D.Disk.health c.args.self.now c.take.new.self (Some c.in_ok-entry.entry) c.in_err-take.field-0.0 c.in_err-take.ensures))
 
 pub returns-clause-handled : goal.returns-clause-handled
 returns-clause-handled g c =
-    subst (λ (e : Entry). Handles {X = Vote} g.D.Disk.tells g.D.Disk.history g.D.Disk.faults g.D.Disk.is_starved c.args.self.now c.take.new.self (Some e) (Ok c.in_ok-told.told))
+    subst (λ (e : Entry). Handles {X = Vote} g.D.Disk.tells g.D.Disk.history g.D.Disk.health c.args.self.now c.take.new.self (Some e) (Ok c.in_ok-told.told))
     (c.in_ok-entry.ensures c.args.self.now.memory.setup.index)
-    (handles_ok g.D.Disk.tells g.D.Disk.history g.D.Disk.faults g.D.Disk.is_starved c.args.self.now c.take.new.self (Some c.in_ok-entry.entry) tt c.in_ok-told.told c.in_ok-take.ensures)
+    (handles_ok g.D.Disk.tells g.D.Disk.history g.D.Disk.health c.args.self.now c.take.new.self (Some c.in_ok-entry.entry) tt c.in_ok-told.told c.in_ok-take.ensures)

@@ -9,19 +9,19 @@ pub write_node-requires-clause-image : goal.write_node-requires-clause-image
 write_node-requires-clause-image g c = image_small c.args.setup c.requires c.deref-2.result.now (c.deref-2.ensures.value ∙ c.in_ok-image.ensures)
 
 pub returns-in_err-write_node-clause-any_moment : goal.returns-in_err-write_node-clause-any_moment
-returns-in_err-write_node-clause-any_moment g c told none =
+returns-in_err-write_node-clause-any_moment g c ready =
     forming c.args.setup c.requires (g.D.Disk.history c.args.disk.now).now.content c.deref.result.now c.deref-2.result.now (c.deref.ensures.value ∙ c.in_ok-front.ensures)
-    (c.deref-2.ensures.value ∙ c.in_ok-image.ensures) (g.D.Disk.history c.args.disk.now) (g.D.Disk.history c.write_node.new.disk) (c.write_node.ensures.any_moment told none)
+    (c.deref-2.ensures.value ∙ c.in_ok-image.ensures) (g.D.Disk.history c.args.disk.now) (g.D.Disk.history c.write_node.new.disk) (c.write_node.ensures.any_moment ready)
 
 pub returns-clause-any_moment : goal.returns-clause-any_moment
-returns-clause-any_moment g c told none =
+returns-clause-any_moment g c ready =
     forming c.args.setup c.requires (g.D.Disk.history c.args.disk.now).now.content c.deref.result.now c.deref-2.result.now (c.deref.ensures.value ∙ c.in_ok-front.ensures)
-    (c.deref-2.ensures.value ∙ c.in_ok-image.ensures) (g.D.Disk.history c.args.disk.now) (g.D.Disk.history c.write_node.new.disk) (c.write_node.ensures.any_moment told none)
+    (c.deref-2.ensures.value ∙ c.in_ok-image.ensures) (g.D.Disk.history c.args.disk.now) (g.D.Disk.history c.write_node.new.disk) (c.write_node.ensures.any_moment ready)
 
 pub returns-clause-fresh : goal.returns-clause-fresh
-returns-clause-fresh g c told none =
-    let done = c.in_ok-write_node.ensures.ok told none in (
+returns-clause-fresh g c ready =
+    let done = c.in_ok-write_node.ensures.ok ready in (
       laid_is_fresh c.args.setup c.requires c.deref.result.now c.deref-2.result.now (c.deref.ensures.value ∙ c.in_ok-front.ensures) (c.deref-2.ensures.value ∙ c.in_ok-image.ensures)
           (g.D.Disk.history c.write_node.new.disk).now.content done.laid,
-      done.safe,
+      record { speaks = c.in_ok-write_node.ensures.hands.speaks ready.speaks; safe = done.safe },
     )

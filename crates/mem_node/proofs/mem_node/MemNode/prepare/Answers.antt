@@ -16,7 +16,7 @@ use Rattle.mem_node.proofs.mem_node.MemNode.prepare.Goals as goal
 pub returns-in_err-ballot-clause-handled : goal.returns-in_err-ballot-clause-handled
 returns-in_err-ballot-clause-handled g c =
     let p = err_from_is_err_and c.from_residual.result c.from_residual.ensures.1 in
-    rw (p.1, p.2) (nothing g.D.Disk.tells g.D.Disk.history g.D.Disk.faults g.D.Disk.is_starved c.args.self.now _ _ record { memory = refl; log = refl; shut = refl })
+    rw (p.1, p.2) (nothing g.D.Disk.tells g.D.Disk.history g.D.Disk.health c.args.self.now _ _ record { memory = refl; log = refl; shut = refl })
 
 pub cast-requires-clause-cast : goal.cast-requires-clause-cast
 cast-requires-clause-cast g c =
@@ -52,7 +52,7 @@ returns-then-ballot-clause-handled g c =
     let n = node_with (state_of own.memory) in
     let e = reaction_new n c.args.id own.memory.setup.index c.args.items.now (rule_for n c.args.id c.args.items.now) c.in_ok-ballot.ballot.vote refl c.in_ok-ballot.ensures.vote
     (sym c.in_ok-ballot.ensures.entry ∙ c.if-ballot.true) in
-    subst (λ (x : Option Entry). Handles {X = Vote} g.D.Disk.tells g.D.Disk.history g.D.Disk.faults g.D.Disk.is_starved own c.cast.new.self x c.cast.result)
+    subst (λ (x : Option Entry). Handles {X = Vote} g.D.Disk.tells g.D.Disk.history g.D.Disk.health own c.cast.new.self x c.cast.result)
     (sym (ap (λ (r : Reaction). r.entry) e)) c.cast.ensures.handled
 
 pub returns-else-ballot-clause-answer : goal.returns-else-ballot-clause-answer
@@ -69,6 +69,6 @@ returns-else-ballot-clause-handled g c =
     let n = node_with (state_of own.memory) in
     let e = reaction_old n c.args.id own.memory.setup.index c.args.items.now (rule_for n c.args.id c.args.items.now) c.in_ok-ballot.ballot.vote refl c.in_ok-ballot.ensures.vote
     (sym c.in_ok-ballot.ensures.entry ∙ c.if-ballot.false) in
-    subst (λ (x : Option Entry). Handles {X = Vote} g.D.Disk.tells g.D.Disk.history g.D.Disk.faults g.D.Disk.is_starved own own x (Ok c.in_ok-ballot.ballot.vote))
+    subst (λ (x : Option Entry). Handles {X = Vote} g.D.Disk.tells g.D.Disk.history g.D.Disk.health own own x (Ok c.in_ok-ballot.ballot.vote))
     (sym (ap (λ (r : Reaction). r.entry) e))
-    (rested g.D.Disk.tells g.D.Disk.history g.D.Disk.faults g.D.Disk.is_starved own own c.in_ok-ballot.ballot.vote record { memory = refl; log = refl; shut = refl } c.requires.running)
+    (rested g.D.Disk.tells g.D.Disk.history g.D.Disk.health own own c.in_ok-ballot.ballot.vote record { memory = refl; log = refl; shut = refl } c.requires.running)

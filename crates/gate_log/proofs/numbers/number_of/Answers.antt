@@ -1,6 +1,6 @@
 use Rattle.std.proofs.Common.{rules}
 use Rattle.std.proofs.lemmas.Nat.{be_bytes_8}
-use Rattle.gate_log.proofs.boot_cell.number_of.Goals as goal
+use Rattle.gate_log.proofs.numbers.number_of.Goals as goal
 
 pub returns-clause-spelled : goal.returns-clause-spelled
 returns-clause-spelled c = be_bytes_8 c.args.bytes.now c.from_be_bytes.result c.requires (λ i. let fits = c.type_inv.bytes i in search rules) c.from_be_bytes.ensures
