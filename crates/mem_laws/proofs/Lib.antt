@@ -14,3 +14,4 @@ pub mod CutLemmas
 pub mod LoadLemmas
 pub mod MiniLemmas
 pub mod PartLemmas
+pub mod ClusterLemmas

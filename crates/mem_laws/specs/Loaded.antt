@@ -1,6 +1,6 @@
 -- How a state that a load finds shows in a machine that is opened from states: its floors and kept records as records.
-use Rattle.std.specs.Prelude.{◌≡◌, ◌≤◌, ℕ, Bool, true, false, List, [], ◌∷◌, ◌++◌, length, get_or, Option, Some, None, is_some, if◌then◌else◌}
-use Rattle.std.specs.List.{AllByRecursion}
+use Rattle.std.specs.Prelude.{◌≡◌, ◌≤◌, ℕ, Bool, true, false, List, [], ◌∷◌, ◌++◌, length, get_or, Option, Some, None, is_some, if◌then◌else◌, ◌+◌, map}
+use Rattle.std.specs.List.{AllByRecursion, slice_get}
 use Rattle.mini_tx.specs.Laws.{IsTypedId}
 use Rattle.mini_tx.specs.EntryGrammar.{is_granted}
 use Rattle.mem_node.specs.declared.floor.Floor.{Floor}
@@ -8,8 +8,10 @@ use Rattle.mem_node.specs.declared.kept.Kept.{Kept}
 use Rattle.mem_node.specs.Fit.{IsWriteInside}
 use Rattle.mem_node.specs.Rules.{is_undecided}
 use Rattle.mem_node.specs.State.{State, floor_at, kept_of}
-use Rattle.tx_rules.specs.Mini.{In, Setting, has_several, participants_at, cells_of, IsFresh}
-use Rattle.tx_rules.specs.Decision.{Reason, Record, Grant, Refuse, Commit, Abort, Forget}
+use Rattle.tx_rules.specs.Mini.{In, Memory, Setting, has_several, participants_at, cells_of, IsFresh}
+use Rattle.tx_rules.specs.Decision.{Entry, At, Reason, Record, Grant, Refuse, Commit, Abort, Forget}
+use Rattle.tx_rules.specs.World.{opened}
+use Rattle.tx_actors.specs.Node.{view}
 use Rattle.mem_laws.specs.Cells.{number, cells_in, written_in}
 use Rattle.mem_laws.specs.Shown.{reason_of, AreDistinct, Shows}
 
@@ -77,3 +79,23 @@ pub record IsLoaded (s : Setting) (m : ℕ) (state : State) : Type 0 where
 abbrev pub LoadedNodesShow : Type 0
 LoadedNodesShow = (s : Setting) (m : ℕ) (state : State) (seen : ℕ → ℕ → ℕ) → IsLoaded s m state
     → Shows s m state (record { records = records_of_state state; image = λ a. get_or state.image a 0; seen = seen })
+
+-- ---- a cluster that is opened from states
+
+-- the logs of memory nodes in these states, of which the first has this number
+abbrev pub log_from : ℕ → List State → List Entry
+log_from m [] = []
+log_from m (state ∷ states) = map (At m) (records_of_state state) ++ log_from (m + 1) states
+
+-- the bytes of a memory node that is there
+abbrev pub bytes_in : Option State → ℕ → ℕ
+bytes_in None a = 0
+bytes_in (Some state) a = get_or state.image a 0
+
+abbrev pub image_from : List State → Memory
+image_from states m = bytes_in (slice_get states m)
+
+-- each of them shows in the machine that is opened from the logs and images of all
+abbrev pub LoadedClustersShow : Type 0
+LoadedClustersShow = (s : Setting) (states : List State) (m : ℕ) (state : State) → slice_get states m ≡ Some state → IsLoaded s m state
+    → Shows s m state (view (opened s (log_from 0 states) (image_from states)) m)

@@ -1,6 +1,6 @@
 //! Laws of a memory node's rules and of the machine's.
 ghost use Rattle.mem_laws.specs.Cuts.{ListsAreTheMachines, HeldCutsAreTheMachines, ListedCutsAreTheMachines, HoldsAreTheMachines, ReleasesAreTheMachines, DropsAreTheMachines, ReadsAreTheMachines};
-ghost use Rattle.mem_laws.specs.Loaded.{LoadedNodesShow};
+ghost use Rattle.mem_laws.specs.Loaded.{LoadedNodesShow, LoadedClustersShow};
 ghost use Rattle.mem_laws.specs.Minis.{ParticipantsAreTheTables, ValidMinisFit, MinisAreTold, MinisMatchAlike, MinisReadAlike, MinisWriteAlike, FlatMemoriesAreAlike};
 ghost use Rattle.mem_laws.specs.Laws.{RulesAreTheMachines, VotesAreTheMachines, StatesAreTheMachines, DecisionsAreTheMachines, ForgettingIsTheMachines, AnswersAreTheMachines, DecisionsLeaveTheSame, ForgettingLeavesTheSame, AnswersLeaveTheSame, OthersLeaveIt, OpenedNodesShow};
 
@@ -132,4 +132,9 @@ pub fn flat_memories_are_alike()
 /// The participants of a minitransaction over byte lists are those of its entry.
 pub fn participants_are_the_tables()
     ensures { ParticipantsAreTheTables }
+{}
+
+/// And each of them shows in the machine that is opened from the logs and images of all.
+pub fn loaded_clusters_show()
+    ensures { LoadedClustersShow }
 {}

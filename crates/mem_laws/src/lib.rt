@@ -12,8 +12,8 @@ pub use laws::{
     decisions_leave_the_same, drops_are_the_machines, flat_memories_are_alike,
     forgetting_is_the_machines, forgetting_leaves_the_same, held_cuts_are_the_machines,
     holds_are_the_machines, listed_cuts_are_the_machines, lists_are_the_machines,
-    loaded_nodes_show, minis_are_told, minis_match_alike, minis_read_alike, minis_write_alike,
-    opened_nodes_show, others_leave_it, participants_are_the_tables, reads_are_the_machines,
-    releases_are_the_machines, rules_are_the_machines, states_are_the_machines, valid_minis_fit,
-    votes_are_the_machines,
+    loaded_clusters_show, loaded_nodes_show, minis_are_told, minis_match_alike, minis_read_alike,
+    minis_write_alike, opened_nodes_show, others_leave_it, participants_are_the_tables,
+    reads_are_the_machines, releases_are_the_machines, rules_are_the_machines,
+    states_are_the_machines, valid_minis_fit, votes_are_the_machines,
 };

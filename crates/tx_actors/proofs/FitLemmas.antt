@@ -2,7 +2,7 @@
 use Rattle.std.proofs.Common.{◌≡◌, ℕ, ◌<◌, ◌≤◌, Bool, true, false, cond, List, [], ◌∷◌, map, Some, inl, inr, refl}
 use Rattle.tx_rules.specs.Mini.{In, Setting, nodes_of, IsLive, IsFresh}
 use Rattle.tx_rules.specs.Decision.{Record, Grant, Refuse, Commit, Abort, Forget}
-use Rattle.tx_rules.specs.World.{Message, Refused, Done, Ask, AnswerOk, World, Promises, AtPosting, Event, Begins, Grants, Completes, Refuses, Commits, Aborts, Forgets, Posts, May, after, IsRun, after_all}
+use Rattle.tx_rules.specs.World.{Message, Looked, Refused, Done, Ask, AnswerOk, World, Promises, AtPosting, Event, Begins, Grants, Completes, Refuses, Commits, Aborts, Forgets, Posts, May, after, IsRun, after_all}
 use Rattle.tx_rules.proofs.GrowthLemmas.{Grows, promises_grow, committed_grows, aborted_grows, grows}
 use Rattle.tx_rules.proofs.SoundLemmas.{grows_all}
 use Rattle.tx_actors.specs.Coordinator.{Running, Finishing, Coordinator, Outcome, Committed, Failed, Act, decide}
@@ -71,14 +71,15 @@ appending_begins s w m (r ∷ rs) t h = record_begins s w m r t (appending_begin
 
 -- ---- posting
 
--- it is no refusal
-abbrev pub IsNoRefusal : Message → Type 0
-IsNoRefusal (Refused m t why) = ⊥
-IsNoRefusal p = Unit {0}
+-- it is neither a refusal nor a look
+abbrev pub IsPlainKind : Message → Type 0
+IsPlainKind (Refused m t why) = ⊥
+IsPlainKind (Looked m t bytes) = ⊥
+IsPlainKind p = Unit {0}
 
--- a message that is no refusal, and may be posted wherever its promise holds
+-- a message of a plain kind that may be posted wherever its promise holds
 abbrev pub IsPlain : Setting → Message → Type 0
-IsPlain s p = IsNoRefusal p × ((w : World) → AtPosting s w p)
+IsPlain s p = IsPlainKind p × ((w : World) → AtPosting s w p)
 
 abbrev pub MayPost : Setting → World → Message → Type 0
 MayPost s w p = Promises s w p × IsPlain s p

@@ -279,7 +279,7 @@ added_image s w (Aborts n t) m a = plain_replayed s m n a (Abort t) (w.image m) 
 added_image s w (Forgets n t) m a = plain_replayed s m n a (Forget t) (w.image m) (λ u e. absurd cc)
 added_image s w (Posts p) m a = refl
 
-own_append : (m : ℕ) (xs ys : List Entry) → own m (xs ++ ys) ≡ own m xs ++ own m ys
+pub own_append : (m : ℕ) (xs ys : List Entry) → own m (xs ++ ys) ≡ own m xs ++ own m ys
 own_append m [] ys = refl
 own_append m (At n r ∷ xs) ys = go (n == m) (own_append m xs ys)
   where

@@ -11,3 +11,4 @@ pub mod HeadlineLemmas
 pub mod RowLemmas
 pub mod PointLemmas
 pub mod AlikeLemmas
+pub mod LookLemmas

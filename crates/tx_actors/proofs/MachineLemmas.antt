@@ -233,7 +233,7 @@ module _ (s : Setting) (st : State) (fit : IsFit s st) where
 -- ---- all inputs
 
 -- what was begun stays begun
-begun_steps : (s : Setting) (st : State) (inputs : List Input) (t : ℕ) → In t st.world.begun → In t (steps s st inputs).world.begun
+pub begun_steps : (s : Setting) (st : State) (inputs : List Input) (t : ℕ) → In t st.world.begun → In t (steps s st inputs).world.begun
 begun_steps s st [] t h = h
 begun_steps s st (input ∷ inputs) t h = begun_steps s (step s st input) inputs t (begun_all s st.world (move s st input).events t h)
 

@@ -84,6 +84,16 @@ LooksHaveTheirMoment = (s : Setting) (log : List Entry) (image : Memory) (next :
     × (bytes ≡ reads_of s t m (flat s (after_all s (opened s log image) first).points m))
     × Matches s t m (flat s (after_all s (opened s log image) first).points m)
 
+-- so they are those of the flat memory just before the input that posts it
+abbrev pub LooksHaveTheirInput : Type 0
+LooksHaveTheirInput = (s : Setting) (log : List Entry) (image : Memory) (next : ℕ → ℕ) → IsOpening s log image → IsAboveKnown s next
+    → (inputs : List Input) → IsFitting s (steps s (opened_at s log image next) inputs).world
+    → (k m t : ℕ) (bytes : List (List ℕ)) → numbered (steps s (opened_at s log image next) inputs).world.posted k ≡ Some (Looked m t bytes)
+    → (earlier : List Input) × (input : Input) × (later : List Input) × (inputs ≡ earlier ++ input ∷ later)
+    × (length (steps s (opened_at s log image next) earlier).world.posted ≡ k)
+    × (bytes ≡ reads_of s t m (flat s (steps s (opened_at s log image next) earlier).world.points m))
+    × Matches s t m (flat s (steps s (opened_at s log image next) earlier).world.points m)
+
 -- those of a minitransaction of one participant without a write item are those of the flat memory at a moment of the
 -- run, at which it matched that memory
 abbrev pub LooksOfOutcomesAreFlat : Type 0

@@ -1,6 +1,6 @@
 //! Laws of the actors of the transaction protocol.
 ghost use Rattle.tx_actors.specs.Headline.{FormattedClustersAreSerial};
-ghost use Rattle.tx_actors.specs.Laws.{StatesAreRuns, BegunIsBelow, OnePointAnInput, OutcomesStand, OutcomesStay, FailedNeverCommits, FailuresHadTheirReason, LooksHaveTheirMoment, LiveAreNamedByAll, CommittedReadsAreFlat, LooksOfOutcomesAreFlat, ReactionsAreAllowed, UndecidedIsOpen, AboveIsNotPassed, FloorsAreGreatest, RecordsAreKept, ImagesAreReplayed, AppendingMakes, OthersChangeNothing, NumbersStay, StepsJoin};
+ghost use Rattle.tx_actors.specs.Laws.{StatesAreRuns, BegunIsBelow, OnePointAnInput, OutcomesStand, OutcomesStay, FailedNeverCommits, FailuresHadTheirReason, LooksHaveTheirMoment, LooksHaveTheirInput, LiveAreNamedByAll, CommittedReadsAreFlat, LooksOfOutcomesAreFlat, ReactionsAreAllowed, UndecidedIsOpen, AboveIsNotPassed, FloorsAreGreatest, RecordsAreKept, ImagesAreReplayed, AppendingMakes, OthersChangeNothing, NumbersStay, StepsJoin};
 ghost use Rattle.tx_actors.specs.Numbers.{IdentifiersAreOrdered, IdentifiersTellTheirCoordinator};
 ghost use Rattle.tx_actors.specs.Sample.{SampleEndsWell, MessagesMayDisagree};
 ghost use Rattle.tx_actors.specs.Rows.{TwoPhases, Orphan, Lone};
@@ -169,4 +169,9 @@ pub fn numbers_stay()
 /// Inputs behind inputs lead where both lead one after another.
 pub fn steps_join()
     ensures { StepsJoin }
+{}
+
+/// And the flat memory just before the input that posts it.
+pub fn looks_have_their_input()
+    ensures { LooksHaveTheirInput }
 {}

@@ -13,8 +13,9 @@ pub use laws::{
     coordinator_finishes, coordinator_repeats, failed_never_commits, failures_had_their_reason,
     floors_are_greatest, formatted_clusters_are_serial, identifiers_are_ordered,
     identifiers_tell_their_coordinator, images_are_replayed, limits_are_kept,
-    live_are_named_by_all, lone, looks_have_their_moment, looks_of_outcomes_are_flat,
-    manager_finishes, messages_may_disagree, numbers_stay, one_point_an_input, orphan,
-    others_change_nothing, outcomes_stand, outcomes_stay, reactions_are_allowed, records_are_kept,
-    sample_ends_well, states_are_runs, steps_join, two_phases, undecided_is_open,
+    live_are_named_by_all, lone, looks_have_their_input, looks_have_their_moment,
+    looks_of_outcomes_are_flat, manager_finishes, messages_may_disagree, numbers_stay,
+    one_point_an_input, orphan, others_change_nothing, outcomes_stand, outcomes_stay,
+    reactions_are_allowed, records_are_kept, sample_ends_well, states_are_runs, steps_join,
+    two_phases, undecided_is_open,
 };

@@ -12,7 +12,7 @@ use Rattle.tx_actors.specs.Manager.{learn, resend_manager}
 use Rattle.tx_actors.specs.Machine.{all_granted, event_of, appending, numbered, Input, Begin, ToNode, ToStoppingNode, ToCoordinator, ToManager, GiveUp, Resend, BootCoordinator, BootNode, Sweep, ResendManager, BootManager, idle, acts, to_node, to_coordinator, to_manager, move}
 use Rattle.tx_actors.proofs.TestLemmas.{some_is}
 use Rattle.tx_actors.proofs.RecordLemmas.{own-log, StandsSo, standing_is}
-use Rattle.tx_actors.proofs.FitLemmas.{IsNoRefusal}
+use Rattle.tx_actors.proofs.FitLemmas.{IsPlainKind}
 use Rattle.tx_actors.proofs.CoordinatorLemmas.{resend_fine, hear_granted_fine, hear_refused_fine, hear_done_fine}
 use Rattle.tx_actors.proofs.ManagerLemmas.{learn_fine, resend_manager_fine}
 use Rattle.tx_actors.proofs.MachineLemmas.{IsFit, numbered-In}
@@ -40,11 +40,11 @@ clear_append : (s : Setting) (k : Cuts) (xs ys : List Event) → AllClear s k xs
 clear_append s k [] ys first second = second
 clear_append s k (x ∷ xs) ys first second = (first.0, clear_append s (after_cut s k (Does x)) xs ys first.1 second)
 
--- a message that is no refusal
-plain_clear : (k : Cuts) (p : Message) → IsNoRefusal p → IsClear k (Posts p)
+-- a message of a plain kind
+plain_clear : (k : Cuts) (p : Message) → IsPlainKind p → IsClear k (Posts p)
 plain_clear k (Prepare t) plain = tt
 plain_clear k (Granted m t bytes) plain = tt
-plain_clear k (Looked m t bytes) plain = tt
+plain_clear k (Looked m t bytes) plain = absurd plain
 plain_clear k (Refused m t why) plain = absurd plain
 plain_clear k (DecideCommit t) plain = tt
 plain_clear k (DecideAbort t) plain = tt
@@ -77,7 +77,7 @@ posts_clear s k [] all = tt
 posts_clear s k (p ∷ posts) all =
     (all p (inl refl), posts_clear s (after_cut s k (Does (Posts p))) posts (λ q h. still_clear s k p q (all q (inr h))))
 
-plain_posts : (s : Setting) (k : Cuts) (posts : List Message) → ((p : Message) → In p posts → IsNoRefusal p) → AllClear s k (map Posts posts)
+plain_posts : (s : Setting) (k : Cuts) (posts : List Message) → ((p : Message) → In p posts → IsPlainKind p) → AllClear s k (map Posts posts)
 plain_posts s k posts all = posts_clear s k posts (λ p h. plain_clear k p (all p h))
 
 -- ---- what a memory node does while it holds this cut, or none

@@ -3,7 +3,7 @@ use Rattle.std.proofs.Common.{◌≡◌, ℕ, ◌==◌, ◌&&◌, false, cond, L
 use Rattle.std.proofs.lemmas.Bool.{eq-eqb, ne_eqb, and_left, and_right, cases_eq}
 use Rattle.tx_rules.specs.Mini.{In, Memory, Setting, reads_of}
 use Rattle.tx_rules.specs.Decision.{Reason, Forced, Held, Locked, Mismatch, Record, Grant, Refuse, Commit, Abort, Forget, Entry, At, IsGranted, IsCast, IsPassed, IsBelow, IsRefused, IsDecided, IsCommitted, IsAborted, IsThrough, IsOver}
-use Rattle.tx_rules.specs.World.{Message, Prepare, Granted, Looked, Refused, DecideCommit, DecideAbort, Done, Forgotten, ListKept, Kept, Ask, AnswerOk, AnswerAbort, World, IsOutdated, IsForced, IsFounded, Stands, Promises, MayGrant, Event, Begins, Grants, Completes, Refuses, Commits, Aborts, Forgets, Posts, May, with_sight, after}
+use Rattle.tx_rules.specs.World.{Message, Prepare, Granted, Looked, Refused, DecideCommit, DecideAbort, Done, Forgotten, ListKept, Kept, Ask, AnswerOk, AnswerAbort, World, IsForced, IsFounded, Stands, Promises, MayGrant, Event, Begins, Grants, Completes, Refuses, Commits, Aborts, Forgets, Posts, May, with_sight, after}
 
 -- one world has all that the other has, and grants nothing that was passed
 pub record Grows (s : Setting) (w v : World) : Type 0 where

@@ -1,7 +1,7 @@
 -- What holds of every run of the protocol, from any opening.
 use Rattle.std.specs.Prelude.{◌≡◌, ℕ, List, [], ◌∷◌, ◌++◌, filter, ◌⊎◌, ◌↔◌, ⊤}
 use Rattle.tx_rules.specs.Mini.{In, Memory, Setting, nodes_of, cells_of, IsLive, IsFresh, reads_of, Matches, IsMismatch, AreApart, flat}
-use Rattle.tx_rules.specs.Decision.{Reason, Mismatch, Record, Refuse, Entry, At, named_in, Commit, Abort, Forget, IsOpen, IsCommitted, IsAborted, IsOver}
+use Rattle.tx_rules.specs.Decision.{Reason, Mismatch, Record, Entry, At, named_in, Commit, Abort, Forget, IsOpen, IsCommitted, IsAborted, IsOver}
 use Rattle.tx_rules.specs.World.{Message, Granted, Looked, Refused, World, opened, IsOutdated, HasReason, Promises, Event, Begins, Refuses, Posts, May, IsRun, after_all}
 use Rattle.tx_rules.specs.Opening.{IsPending, IsOpening, IsFormatted}
 
