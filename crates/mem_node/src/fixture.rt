@@ -7,7 +7,7 @@ use crate::mem_node::MemNode;
 use crate::node_fault::NodeFault;
 use crate::replay::LOG_AT;
 use crate::setup::Setup;
-use disk_model::{Calls, Choice, Disk, PlanDisk};
+use disk_model::{Calls, Disk, PlanDisk};
 use gate_log::Log;
 use mini_tx::{
     Actor, Bytes, Geometry4, Item, Message, NoMemory, Numbers, Placed, PlacedItem, Reads, TxId,
@@ -29,14 +29,6 @@ pub(crate) const SETUP: Setup = Setup {
 /// Where its block begins.
 const BLOCK_AT: u32 = 12_288;
 
-/// What a restart may take.
-pub(crate) const CHOICES: [Choice; 4] = [
-    Choice::Old,
-    Choice::New,
-    Choice::Fill(1),
-    Choice::Fill(7),
-];
-
 /// The identifier with this number of the first start of node 0.
 pub(crate) fn id_of(seq: u64) -> TxId
     ensures { result.coord ≡ 0 }
@@ -48,9 +40,9 @@ pub(crate) fn id_of(seq: u64) -> TxId
     }
 }
 
-/// A disk that was never written, of which the calls with these numbers fail.
-pub(crate) fn disk_failing(alloc: Global, calls: &[u64]) -> Result<PlanDisk, NoMemory> {
-    Ok(PlanDisk::new(alloc, Calls::from_slice(alloc, calls)?))
+/// A disk that was never written.
+pub(crate) fn blank(alloc: Global) -> PlanDisk {
+    PlanDisk::new(alloc, Calls::new(alloc))
 }
 
 /// The memory node of this disk. Where it is refused the disk is let go.
@@ -81,8 +73,6 @@ pub(crate) enum Ask {
     ReadMark,
     /// 7 into the first byte of the block.
     WriteSeven,
-    /// 9 into it, where it has 8.
-    ChangeEight,
 }
 
 /// Its items.
@@ -107,24 +97,6 @@ fn items_of(alloc: Global, ask: Ask) -> Result<Placed, NoMemory>
                 bytes: Bytes::from_slice(alloc, &[7])?,
             },
         })?,
-        Ask::ChangeEight => {
-            items.push(PlacedItem {
-                place: 0,
-                item: Item::Compare {
-                    memory: 0,
-                    at: BLOCK_AT,
-                    bytes: Bytes::from_slice(alloc, &[8])?,
-                },
-            })?;
-            items.push(PlacedItem {
-                place: 1,
-                item: Item::Write {
-                    memory: 0,
-                    at: BLOCK_AT,
-                    bytes: Bytes::from_slice(alloc, &[9])?,
-                },
-            })?;
-        }
     }
     Ok(items)
 }
@@ -160,12 +132,4 @@ pub(crate) fn granted(alloc: Global, bytes: &[u8]) -> Result<Vote, NoMemory> {
     let mut reads = Reads::new(alloc);
     reads.push(Bytes::from_slice(alloc, bytes)?)?;
     Ok(Vote::Granted(reads))
-}
-
-/// The vote where these bytes stand at the compare item with this place.
-pub(crate) fn mismatch(alloc: Global, item: u32, kept: &[u8]) -> Result<Vote, NoMemory> {
-    Ok(Vote::Mismatch {
-        item,
-        kept: Bytes::from_slice(alloc, kept)?,
-    })
 }
