@@ -12,17 +12,19 @@ mod access;
 mod content;
 mod entry;
 mod file;
+mod files;
 mod geometry;
 mod handle;
 mod kept;
 mod plain_tree;
 
-pub use access::{READ, SEARCH, SUPERUSER, WRITE, is_of_group, may};
+pub use access::{READ, SEARCH, SUPERUSER, WRITE, is_allowed, is_of_group, may};
 pub use content::{
     BLOCK_BYTES, Blocks, Content, REFERENCES_PER_CHAIN, SLOTS_PER_BLOCK, Slots, chains_up_to,
 };
 pub use entry::Entry;
 pub use file::File;
+pub use files::Files;
 pub use fs_layout::{Attrs, MAX_BLOCKS, MAX_INODES, MAX_MEMORIES, Reference};
 pub use geometry::{Geometry, MAX_NODES};
 pub use handle::{handle_of, number_at};

@@ -25,3 +25,5 @@ pub mod GrowthLemmas
 pub mod PlanLemmas
 pub mod MovingLemmas
 pub mod ChainLemmas
+mod GivenLemmas
+mod LeftLemmas

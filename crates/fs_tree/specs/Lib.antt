@@ -11,3 +11,4 @@ pub mod Linking
 pub mod Meets
 pub mod Makes
 pub mod Moving
+pub mod Given

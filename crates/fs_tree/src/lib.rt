@@ -14,6 +14,7 @@ mod changing;
 mod creating;
 mod decision;
 mod directory;
+mod given;
 mod giving;
 mod limits;
 mod linking;

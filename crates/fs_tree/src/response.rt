@@ -1,6 +1,7 @@
 ghost use Rattle.std.specs.Prelude.{◌≡◌, None, Some};
 ghost use Rattle.nfs_proto.specs.declared.answer.Answer.TheVariants.{Found};
 ghost use Rattle.fs_rules.specs.Handle.{handle};
+ghost use Rattle.fs_tree.specs.Meets.{made_by};
 
 use fs_rules::{Answer, Fattr, handle_of};
 
@@ -13,6 +14,13 @@ pub struct Response {
 }
 
 impl Response {
+    // The number and the generation of the file that was made, if one was.
+    pub(crate) fn made(&self) -> Option<(u32, u32)>
+        ensures { result ≡ made_by self.now }
+    {
+        self.change?.made
+    }
+
     // An answer that changes nothing.
     pub(crate) fn told(answer: Answer) -> Response
         ensures answer { result.answer ≡ answer }
