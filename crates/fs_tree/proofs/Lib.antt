@@ -27,3 +27,6 @@ pub mod MovingLemmas
 pub mod ChainLemmas
 mod GivenLemmas
 mod LeftLemmas
+mod ToldLemmas
+mod VerdictLemmas
+mod AboutLemmas

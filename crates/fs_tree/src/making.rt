@@ -7,26 +7,29 @@ ghost use Rattle.fs_rules.specs.File.{is_directory, slots_of, used};
 ghost use Rattle.fs_rules.specs.Slots as slot;
 ghost use Rattle.fs_rules.specs.Numbers.{kept_at};
 ghost use Rattle.fs_rules.specs.Edits.{Changed, Made, changed_at, edited};
-ghost use Rattle.fs_rules.specs.Making.{new_uid, new_gid, new_file, with_slots};
+ghost use Rattle.fs_rules.specs.Making.{with_slots};
 ghost use Rattle.fs_tree.specs.Makes.{is_pick, used_by, made_limits, taking, CanTake};
 
-use crate::attributes::{MODE_VALUES, chosen_moment, is_set};
 use crate::change::{changed, placeholder};
 use crate::limits::{MAX_LINKS, MAX_SLOTS, is_last};
 use crate::numbers::is_pick;
 use crate::space::free_blocks;
-use crate::status::{FBIG, NOSPC};
+use fs_checks::Status;
 use fs_content::{put_name, slots_after_put};
 use fs_rules::{
-    BLOCK_BYTES, Content, Cred, Entry, File, Kept, NoMemory, PlainTree, SLOTS_PER_BLOCK, SUPERUSER,
-    Sattr, Stamp, chains_up_to, is_of_group,
+    BLOCK_BYTES, Content, Entry, File, Kept, NoMemory, PlainTree, SLOTS_PER_BLOCK, Stamp,
+    chains_up_to,
 };
 use sfs_base::Bytes;
 use std::alloc::Global;
 
-/// The number of a file that is made, which is the one that was picked; or the status where a limit forbids
-/// to make it: its directory was changed too often, or would get more links or slots than one can have, or
-/// no free number was picked, or the directory and the file, which uses `more` blocks, find no room.
+/// The number of a file that is made in a directory, which then has so many links and slots: the one that
+/// was picked. The file uses `more` blocks.
+///
+/// # Errors
+///
+/// [`Status::FBIG`] where the directory was changed too often; [`Status::NOSPC`] where it would get more
+/// links or slots than one can have, where no free number was picked, and where both find no room.
 pub(crate) fn place_for(
     tree: &PlainTree,
     dir: &File,
@@ -34,23 +37,23 @@ pub(crate) fn place_for(
     slots: usize,
     more: usize,
     pick: Option<u32>,
-) -> Result<u32, u32>
+) -> Result<u32, Status>
     requires { IsGood tree.now }
     ensures pick { IfOk result (λ number. pick ≡ Some number) }
     ensures ok { is_directory dir.now.content ≡ true → OnOk result (made_limits tree.now dir.now links slots more pick ≡ None) }
     ensures rises { OnOk result (dir.now.change < 2 ^ 64 - 1) }
-    ensures err { is_directory dir.now.content ≡ true → IfErr result (λ status. made_limits tree.now dir.now links slots more pick ≡ Some status) }
+    ensures err { is_directory dir.now.content ≡ true → IfErr result (λ status. made_limits tree.now dir.now links slots more pick ≡ Some status.0) }
 {
     if is_last(dir.change) {
-        return Err(FBIG);
+        return Err(Status::FBIG);
     }
     if links > MAX_LINKS || slots > MAX_SLOTS || !is_pick(tree, pick) {
-        return Err(NOSPC);
+        return Err(Status::NOSPC);
     }
     let own = used_by(slots).saturating_sub(dir.content.used());
     match (free_blocks(tree) as usize).checked_sub(own) {
-        Some(left) if left >= more => pick.ok_or(NOSPC),
-        _ => Err(NOSPC),
+        Some(left) if left >= more => pick.ok_or(Status::NOSPC),
+        _ => Err(Status::NOSPC),
     }
 }
 
@@ -178,60 +181,6 @@ fn directory_size(content: &Content) -> u32
     match content {
         Content::Directory { slots, .. } => BLOCK_BYTES * (slots.len() / SLOTS_PER_BLOCK) as u32,
         _ => 0,
-    }
-}
-
-/// A new file: its generation and its change number are those that its number kept, plus one; its owner is
-/// the caller, or what user 0 sets, and its group the caller's, or what user 0 or one who is of it sets.
-#[tactic(auto, unfolding(fs_rules::specs::Making::new_file))]
-pub(crate) fn new_file(
-    kept: Kept,
-    now: Stamp,
-    set: &Sattr,
-    cred: &Cred,
-    mode: u32,
-    links: u32,
-    size: u32,
-    content: Content,
-) -> File
-    requires generation { kept.generation < 2 ^ 32 - 1 }
-    requires change { kept.change < 2 ^ 64 - 1 }
-    ensures { result ≡ new_file kept now set.now cred.now mode links size content }
-{
-    File {
-        content,
-        mode: mode % MODE_VALUES,
-        links,
-        uid: new_uid(set, cred),
-        gid: new_gid(set, cred),
-        size,
-        generation: kept.generation + 1,
-        change: kept.change + 1,
-        atime: chosen_moment(set.atime, now),
-        mtime: chosen_moment(set.mtime, now),
-        ctime: now,
-    }
-}
-
-// The owner of a new file.
-fn new_uid(set: &Sattr, cred: &Cred) -> u32
-    ensures { result ≡ new_uid set.now cred.now }
-{
-    if is_set(set.uid) && cred.uid == SUPERUSER {
-        set.uid
-    } else {
-        cred.uid
-    }
-}
-
-// The group of a new file.
-fn new_gid(set: &Sattr, cred: &Cred) -> u32
-    ensures { result ≡ new_gid set.now cred.now }
-{
-    if is_set(set.gid) && (cred.uid == SUPERUSER || is_of_group(cred, set.gid)) {
-        set.gid
-    } else {
-        cred.gid
     }
 }
 

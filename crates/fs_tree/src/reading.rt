@@ -12,11 +12,10 @@ ghost use Rattle.fs_tree.specs.Steps.{Fits, unless, answer_about};
 use crate::limits::MAX_DATA_BYTES;
 use crate::lookup::file_of;
 use crate::space::space;
-use crate::status::{ACCES, ISDIR, NXIO, STALE};
+use fs_checks::{Facts, Status};
 use fs_content::read_part;
 use fs_rules::{
-    Answer, Blocks, Bytes, Content, Cred, File, Handle, NoMemory, PlainTree, READ, SEARCH,
-    number_at,
+    Answer, Blocks, Bytes, Content, Cred, File, Handle, NoMemory, PlainTree, number_at,
 };
 use std::alloc::Global;
 
@@ -27,7 +26,7 @@ pub(crate) fn get_attr(tree: &PlainTree, handle: &Handle) -> Answer
 {
     match file_of(tree, handle) {
         Some(file) => Answer::Attr(file.fattr(number_at(handle))),
-        None => Answer::Fault(STALE),
+        None => Answer::Fault(Status::STALE.0),
     }
 }
 
@@ -39,7 +38,7 @@ pub(crate) fn stat_fs(tree: &PlainTree, handle: &Handle) -> Answer
 {
     match file_of(tree, handle) {
         Some(_) => space(tree),
-        None => Answer::Fault(STALE),
+        None => Answer::Fault(Status::STALE.0),
     }
 }
 
@@ -56,28 +55,11 @@ pub(crate) fn read(
     ensures { IfOk result (λ answer. answer ≡ answer_about tree.now handle.now.0 (λ n f. read_checks f cred.now) (λ n f. read_answer n f offset count)) }
 {
     let Some(file) = file_of(tree, handle) else {
-        return Ok(Answer::Fault(STALE));
+        return Ok(Answer::Fault(Status::STALE.0));
     };
-    match read_failure(file, cred) {
-        Some(status) => Ok(Answer::Fault(status)),
-        None => part_of(alloc, number_at(handle), file, offset, count),
-    }
-}
-
-// Why the caller may not read a file.
-#[tactic(auto, unfolding(fs_rules::specs::Statuses::first_failure))]
-pub(crate) fn read_failure(file: &File, cred: &Cred) -> Option<u32>
-    ensures { result ≡ first_failure (read_checks file.now cred.now) }
-{
-    match &file.content {
-        Content::Directory { .. } => return Some(ISDIR),
-        Content::Link(_) => return Some(NXIO),
-        Content::Regular(_) => {}
-    }
-    if file.may(cred, READ) || file.may(cred, SEARCH) {
-        None
-    } else {
-        Some(ACCES)
+    match Facts::of_file(file).check_read(cred) {
+        Ok(()) => part_of(alloc, number_at(handle), file, offset, count),
+        Err(status) => Ok(Answer::Fault(status.0)),
     }
 }
 
@@ -126,7 +108,7 @@ pub(crate) fn read_link(
     ensures { IfOk result (λ answer. answer ≡ answer_about tree.now handle.now.0 (λ n f. read_link_checks f) (λ n f. read_link_answer f)) }
 {
     let Some(file) = file_of(tree, handle) else {
-        return Ok(Answer::Fault(STALE));
+        return Ok(Answer::Fault(Status::STALE.0));
     };
     path_of(alloc, file)
 }
@@ -138,6 +120,6 @@ fn path_of(alloc: Global, file: &File) -> Result<Answer, NoMemory>
 {
     match &file.content {
         Content::Link(_) => Ok(Answer::Path(bytes_of(alloc, &file.content, 0, file.size)?)),
-        _ => Ok(Answer::Fault(NXIO)),
+        _ => Ok(Answer::Fault(Status::NXIO.0)),
     }
 }

@@ -19,10 +19,10 @@ ghost use Rattle.fs_tree.specs.Removing.{MayRemove};
 use crate::directory::directory_of;
 use crate::limits::{is_last, is_spent};
 use crate::lookup::file_at;
-use crate::naming::{is_dots, number_named};
+use crate::naming::number_named;
 use crate::response::{Change, Response};
-use crate::status::{FBIG, ISDIR, NOENT};
 use crate::taking::{take_last, take_one};
+use fs_checks::{Status, is_dots};
 use fs_rules::{Answer, Content, Cred, File, Handle, NoMemory, PlainTree, Stamp, number_at};
 use std::alloc::Global;
 
@@ -41,7 +41,7 @@ pub(crate) fn remove(
 {
     let file = match removed(tree, handle, name, cred) {
         Ok(file) => file,
-        Err(status) => return Ok(Response::told(Answer::Fault(status))),
+        Err(status) => return Ok(Response::refused(status)),
     };
     take_link_of(alloc, tree, number_at(handle), name, file, now)?;
     Ok(Response {
@@ -50,42 +50,36 @@ pub(crate) fn remove(
     })
 }
 
-// The file that loses a name, or why the call is refused.
-fn removed(tree: &PlainTree, handle: &Handle, name: &[u8], cred: &Cred) -> Result<u32, u32>
+// The file that loses a name, where the call may take it.
+fn removed(tree: &PlainTree, handle: &Handle, name: &[u8], cred: &Cred) -> Result<u32, Status>
     requires { IsGood tree.now }
     ensures ok { IfOk result (λ m. (now : AStamp) → (start : ℕ) → MayRemove tree.now handle.now name.now cred.now now start m) }
-    ensures err { IfErr result (λ status. (now : AStamp) → (start : ℕ) → respond tree.now (Remove handle.now name.now) cred.now now start ≡ refused tree.now status) }
+    ensures err { IfErr result (λ status. (now : AStamp) → (start : ℕ) → respond tree.now (Remove handle.now name.now) cred.now now start ≡ refused tree.now status.0) }
 {
-    let dir = match directory_of(tree, handle, name, NOENT, cred) {
-        Ok(dir) => dir,
-        Err(status) => return Err(status),
-    };
-    let file = match file_to_remove(tree, dir, name) {
-        Ok(file) => file,
-        Err(status) => return Err(status),
-    };
+    let dir = directory_of(tree, handle, name, Status::NOENT, cred)?;
+    let file = file_to_remove(tree, dir, name)?;
     if is_last(dir.change) || is_spent(tree, file) {
-        return Err(FBIG);
+        return Err(Status::FBIG);
     }
     Ok(file)
 }
 
 // The file of a name that is there, which is no directory, or why it cannot be removed.
 #[tactic(auto, unfolding(fs_rules::specs::Statuses::first_failure, fs_rules::specs::Names::remove_checks))]
-fn file_to_remove(tree: &PlainTree, dir: &File, name: &[u8]) -> Result<u32, u32>
+fn file_to_remove(tree: &PlainTree, dir: &File, name: &[u8]) -> Result<u32, Status>
     requires { IsGood tree.now }
     ensures named { IfOk result (λ m. file_named (slots_of dir.now.content) name.now ≡ Some m) }
     ensures passes { OnOk result (first_failure (remove_checks tree.now dir.now name.now) ≡ None) }
-    ensures fails { IfErr result (λ status. first_failure (remove_checks tree.now dir.now name.now) ≡ Some status) }
+    ensures fails { IfErr result (λ status. first_failure (remove_checks tree.now dir.now name.now) ≡ Some status.0) }
 {
     if is_dots(name) {
-        return Err(ISDIR);
+        return Err(Status::ISDIR);
     }
     let Some(file) = number_named(&dir.content, name) else {
-        return Err(NOENT);
+        return Err(Status::NOENT);
     };
     if is_directory_at(tree, file) {
-        return Err(ISDIR);
+        return Err(Status::ISDIR);
     }
     Ok(file)
 }

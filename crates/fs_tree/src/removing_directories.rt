@@ -15,11 +15,11 @@ ghost use Rattle.fs_tree.specs.Removing.{MayRemoveDir};
 use crate::directory::directory_of;
 use crate::limits::{is_last, is_spent};
 use crate::lookup::file_at;
-use crate::naming::{is_dots, number_named};
+use crate::naming::number_named;
 use crate::removing::is_directory_at;
 use crate::response::{Change, Response};
-use crate::status::{ACCES, FBIG, NOENT, NOTDIR, NOTEMPTY};
 use crate::taking::take_last;
+use fs_checks::{Status, is_dots};
 use fs_content::is_in_use;
 use fs_rules::{Answer, Content, Cred, File, Handle, NoMemory, PlainTree, Stamp, number_at};
 use std::alloc::Global;
@@ -39,7 +39,7 @@ pub(crate) fn remove_dir(
 {
     let file = match removed_dir(tree, handle, name, cred) {
         Ok(file) => file,
-        Err(status) => return Ok(Response::told(Answer::Fault(status))),
+        Err(status) => return Ok(Response::refused(status)),
     };
     take_last(alloc, tree, number_at(handle), name, 1, file, now)?;
     Ok(Response {
@@ -48,45 +48,39 @@ pub(crate) fn remove_dir(
     })
 }
 
-// The directory that is freed, or why the call is refused.
-fn removed_dir(tree: &PlainTree, handle: &Handle, name: &[u8], cred: &Cred) -> Result<u32, u32>
+// The directory that is freed, where the call may free it.
+fn removed_dir(tree: &PlainTree, handle: &Handle, name: &[u8], cred: &Cred) -> Result<u32, Status>
     requires { IsGood tree.now }
     ensures ok { IfOk result (λ m. (now : AStamp) → (start : ℕ) → MayRemoveDir tree.now handle.now name.now cred.now now start m) }
-    ensures err { IfErr result (λ status. (now : AStamp) → (start : ℕ) → respond tree.now (RemoveDir handle.now name.now) cred.now now start ≡ refused tree.now status) }
+    ensures err { IfErr result (λ status. (now : AStamp) → (start : ℕ) → respond tree.now (RemoveDir handle.now name.now) cred.now now start ≡ refused tree.now status.0) }
 {
-    let dir = match directory_of(tree, handle, name, NOENT, cred) {
-        Ok(dir) => dir,
-        Err(status) => return Err(status),
-    };
-    let file = match directory_to_remove(tree, dir, name) {
-        Ok(file) => file,
-        Err(status) => return Err(status),
-    };
+    let dir = directory_of(tree, handle, name, Status::NOENT, cred)?;
+    let file = directory_to_remove(tree, dir, name)?;
     if is_last(dir.change) || is_spent(tree, file) {
-        return Err(FBIG);
+        return Err(Status::FBIG);
     }
     Ok(file)
 }
 
 // The directory of a name that is there, in which no name is in use, or why it cannot be removed.
 #[tactic(auto, unfolding(fs_rules::specs::Statuses::first_failure, fs_rules::specs::Names::remove_dir_checks))]
-fn directory_to_remove(tree: &PlainTree, dir: &File, name: &[u8]) -> Result<u32, u32>
+fn directory_to_remove(tree: &PlainTree, dir: &File, name: &[u8]) -> Result<u32, Status>
     requires { IsGood tree.now }
     ensures named { IfOk result (λ m. file_named (slots_of dir.now.content) name.now ≡ Some m) }
     ensures passes { OnOk result (first_failure (remove_dir_checks tree.now dir.now name.now) ≡ None) }
-    ensures fails { IfErr result (λ status. first_failure (remove_dir_checks tree.now dir.now name.now) ≡ Some status) }
+    ensures fails { IfErr result (λ status. first_failure (remove_dir_checks tree.now dir.now name.now) ≡ Some status.0) }
 {
     if is_dots(name) {
-        return Err(ACCES);
+        return Err(Status::ACCES);
     }
     let Some(file) = number_named(&dir.content, name) else {
-        return Err(NOENT);
+        return Err(Status::NOENT);
     };
     if !is_directory_at(tree, file) {
-        return Err(NOTDIR);
+        return Err(Status::NOTDIR);
     }
     if is_in_use_at(tree, file) {
-        return Err(NOTEMPTY);
+        return Err(Status::NOTEMPTY);
     }
     Ok(file)
 }

@@ -28,7 +28,7 @@ pub(crate) fn rename(
     ensures err { OnErr result (tree.new ≡ tree.old) }
 {
     match decided(tree, from, from_name, to, to_name, cred) {
-        Decision::Refused(status) => Ok(Response::told(Answer::Fault(status))),
+        Decision::Refused(status) => Ok(Response::refused(status)),
         Decision::Same => Ok(Response::told(Answer::Plain)),
         Decision::Moves(plan) => {
             carry_over(alloc, tree, plan, from_name, to_name, now)?;

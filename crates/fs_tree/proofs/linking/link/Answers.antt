@@ -10,7 +10,7 @@ use Rattle.fs_tree.proofs.linking.link.Goals as goal
 pub give_one-requires : goal.give_one-requires
 give_one-requires c =
     let t = c.args.tree.now in
-    let r = (c.in_default.ensures {u = tt}).none c.args.now 0 in (
+    let r = (c.in_default.ensures {u = tt}).ok c.args.now 0 in (
       r.d,
       r.f,
       subst (λ (n : ℕ). CanGive t n c.number_at-linked.result c.args.name.now r.d r.f) (sym c.number_at.ensures)
@@ -22,7 +22,7 @@ returns-clause-meets c start =
     let t = c.args.tree.now in
     let now = c.args.now in
     let name = c.args.name.now in
-    let r = (c.in_default.ensures {u = tt}).none now start in
+    let r = (c.in_default.ensures {u = tt}).ok now start in
     let n = number_in c.args.dir.now.0 in
     let m = number_in c.args.file.now.0 in
     let can : CanGive t c.number_at.result c.number_at-linked.result name r.d r.f =
