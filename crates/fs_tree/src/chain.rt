@@ -5,8 +5,8 @@ ghost use Rattle.fs_rules.specs.Statuses.{first_failure};
 ghost use Rattle.fs_checks.specs.Verdict.{verdict};
 ghost use Rattle.fs_tree.specs.Moving.{chain_row};
 
-use crate::lookup::file_at;
-use crate::naming::parent_of;
+use crate::live::file_at;
+use crate::lookup::parent_of;
 use fs_checks::Status;
 use fs_rules::{PlainTree, ROOT};
 

@@ -9,8 +9,8 @@ ghost use Rattle.fs_tree.specs.NewFiles.{regular_of};
 
 use crate::change::{check_limits, placeholder, put_file};
 use crate::directory::directory_of;
-use crate::lookup::file_at;
-use crate::naming::{found_at, number_named};
+use crate::live::file_at;
+use crate::lookup::{found_at, number_named};
 use crate::new_file::{NewFile, make_new};
 use crate::response::{Change, Response};
 use crate::set_attr::with_attributes;

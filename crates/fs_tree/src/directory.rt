@@ -4,7 +4,7 @@ ghost use Rattle.fs_rules.specs.Statuses.{first_failure};
 ghost use Rattle.fs_rules.specs.Arguments.{file_of};
 ghost use Rattle.fs_tree.specs.Steps.{Fits, named, named_row};
 
-use crate::lookup::live_file;
+use crate::live::live_file;
 use fs_checks::{Facts, Status};
 use fs_rules::{Cred, File, Handle, PlainTree, SEARCH, WRITE};
 

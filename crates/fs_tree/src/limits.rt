@@ -8,8 +8,8 @@ ghost use Rattle.fs_checks.specs.Verdict.{verdict};
 ghost use Rattle.fs_tree.specs.Makes.{grown_limits, used_by};
 ghost use Rattle.fs_tree.specs.Moving.{is_spent_at};
 
-use crate::lookup::file_at;
-use crate::making::used_by;
+use crate::live::file_at;
+use crate::make::used_by;
 use crate::space::free_blocks;
 use fs_checks::Status;
 use fs_rules::{File, PlainTree};

@@ -6,7 +6,7 @@ ghost use Rattle.fs_tree.specs.Meets.{Meets};
 ghost use Rattle.fs_tree.specs.NewFiles.{directory_of};
 
 use crate::directory::directory_of;
-use crate::naming::is_taken;
+use crate::lookup::is_taken;
 use crate::new_file::{NewFile, make_new};
 use crate::response::Response;
 use fs_checks::{Status, chosen};

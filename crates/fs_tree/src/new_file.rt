@@ -11,7 +11,7 @@ ghost use Rattle.fs_tree.specs.Meets.{Meets};
 ghost use Rattle.fs_tree.specs.NewFiles.{Makes, made_with};
 ghost use Rattle.fs_tree.specs.Steps.{Fits};
 
-use crate::making::{kept_at, make, place_for, slots_with};
+use crate::make::{kept_at, make, place_for, slots_with};
 use crate::response::{Change, Response};
 use fs_checks::{Facts, Kind, Status};
 use fs_rules::{Answer, Content, Cred, File, Kept, NoMemory, PlainTree, Sattr, Stamp, handle_of};

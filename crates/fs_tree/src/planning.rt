@@ -15,12 +15,12 @@ ghost use Rattle.fs_tree.specs.Moving.{source_row, replaced_is, over_row, kind_c
 use crate::chain::{check_chain, is_at};
 use crate::decision::Decision;
 use crate::limits::{check_growth, is_last, is_spent};
-use crate::lookup::{file_at, live_file};
-use crate::making::slots_with;
-use crate::naming::number_named;
+use crate::live::{file_at, live_file};
+use crate::lookup::number_named;
+use crate::make::slots_with;
 use crate::plan::Plan;
-use crate::removing::{has_other_names, is_directory, is_directory_at};
-use crate::removing_directories::has_names;
+use crate::remove::{has_other_names, is_directory, is_directory_at};
+use crate::remove_dir::has_names;
 use crate::replaced::Replaced;
 use fs_checks::{Facts, Status, check_pair, is_dots};
 use fs_rules::{Content, Cred, File, Handle, PlainTree, number_at};

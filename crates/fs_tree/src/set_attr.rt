@@ -10,7 +10,7 @@ ghost use Rattle.fs_tree.specs.Meets.{Meets};
 ghost use Rattle.fs_tree.specs.Steps.{Fits, refused, change_limits};
 
 use crate::change::{check_limits, placeholder, put_changed};
-use crate::lookup::live_file;
+use crate::live::live_file;
 use crate::response::Response;
 use fs_checks::{Facts, Status, sets_something};
 use fs_content::resize;

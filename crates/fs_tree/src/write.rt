@@ -13,7 +13,7 @@ ghost use Rattle.fs_tree.specs.Meets.{Meets};
 ghost use Rattle.fs_tree.specs.Steps.{Fits, refused, change_limits};
 
 use crate::change::{check_limits, placeholder, put_changed};
-use crate::lookup::live_file;
+use crate::live::live_file;
 use crate::response::Response;
 use fs_checks::{Facts, Status};
 use fs_content::{used_after_write, write_bytes};
