@@ -1,5 +1,7 @@
 use super::*;
-use fs_rules::{Blocks, Content, Entry, File, Geometry, Kept, PlainTree, ROOT, Slots, Stamp};
+use fs_rules::{
+    Blocks, Content, Entry, File, Files, Geometry, Kept, PlainTree, ROOT, Slots, Stamp,
+};
 use sfs_base::{Bytes, NoMemory, Table};
 use std::alloc::Global;
 use std::test::*;
@@ -13,7 +15,7 @@ fn empty_tree(alloc: Global) -> PlainTree {
             blocks: 64,
             inodes: 64,
         },
-        files: Table::new(alloc),
+        files: Files::new(alloc),
         freed: Table::new(alloc),
     }
 }

@@ -2,6 +2,7 @@ pub mod Geometry
 pub mod Lists
 pub mod Handle
 pub mod File
+pub mod Files
 pub mod Contents
 pub mod Slots
 pub mod Access

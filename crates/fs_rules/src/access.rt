@@ -44,9 +44,9 @@ fn is_among(gids: &[u32], gid: u32) -> bool
     gids.iter().any(|g| *g == gid)
 }
 
-// The rule, over the fields that it looks at.
+/// The rule of access, over the fields of a file that it looks at. It takes no memory.
 #[tactic(auto, unfolding(crate::specs::Access::is_allowed))]
-pub(crate) fn is_allowed(kind: u32, mode: u32, uid: u32, gid: u32, cred: &Cred, bits: u32) -> bool
+pub fn is_allowed(kind: u32, mode: u32, uid: u32, gid: u32, cred: &Cred, bits: u32) -> bool
     ensures { result ≡ is_allowed kind mode uid gid cred.now bits }
 {
     cred.uid == SUPERUSER || bits & allowed_bits(kind, mode, uid, gid, cred) == bits

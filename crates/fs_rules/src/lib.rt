@@ -12,15 +12,17 @@ mod access;
 mod content;
 mod entry;
 mod file;
+mod files;
 mod geometry;
 mod handle;
 mod kept;
 mod plain_tree;
 
-pub use access::{READ, SEARCH, SUPERUSER, WRITE, is_of_group, may};
+pub use access::{READ, SEARCH, SUPERUSER, WRITE, is_allowed, is_of_group, may};
 pub use content::{BLOCK_BYTES, Blocks, Content, Slots, chains_up_to};
 pub use entry::Entry;
 pub use file::File;
+pub use files::Files;
 pub use fs_layout::{
     Attrs, MAX_BLOCKS, MAX_INODES, MAX_MEMORIES, MAX_NAME_BYTES, REFERENCES_PER_CHAIN, Reference,
     SLOTS_PER_BLOCK,

@@ -1,4 +1,4 @@
-use crate::file::File;
+use crate::files::Files;
 use crate::geometry::Geometry;
 use crate::kept::Kept;
 use sfs_base::Table;
@@ -11,6 +11,6 @@ pub const ROOT: u32 = 1;
 #[derive(Debug, Drop)]
 pub struct PlainTree {
     pub geometry: Geometry,
-    pub files: Table<File>,
+    pub files: Files,
     pub freed: Table<Kept>,
 }

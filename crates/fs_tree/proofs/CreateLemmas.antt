@@ -1,9 +1,10 @@
 -- What respond is for CREATE.
-use Rattle.std.proofs.Common.{◌≡◌, ◌≢◌, ℕ, Bool, true, false, cond, eqb, List, [], ◌∷◌, ◌++◌, Option, Some, None, refl, sym, ap, ◌∙◌}
-use Rattle.std.specs.Prelude.{not, ◌&&◌}
+use Rattle.std.proofs.Common.{◌≡◌, ◌≢◌, ℕ, ◌+◌, ◌*◌, ◌^◌, ◌<◌, arith, subst, Bool, true, false, cond, eqb, List, [], ◌∷◌, ◌++◌, Option, Some, None, refl, sym, ap, ◌∙◌}
+use Rattle.std.specs.Prelude.{not, ◌&&◌, IsSome}
+use Rattle.std.specs.Ordering.{nat_cmp}
 use Rattle.std.specs.Option.{option_map_or}
-use Rattle.std.specs.FinMap.{get, insert}
-use Rattle.sfs_base.proofs.MapLemmas.{get_past_insert}
+use Rattle.std.specs.FinMap.{get, insert, empty, get-empty, len-empty}
+use Rattle.sfs_base.proofs.MapLemmas.{get_past_insert, greatest_has}
 use Rattle.rpc_msg.specs.declared.cred.Cred.{Cred}
 use Rattle.nfs_proto.specs.declared.answer.Answer.{Answer}
 use Rattle.nfs_proto.specs.declared.call.Call.TheVariants.{Create}
@@ -15,7 +16,7 @@ use Rattle.fs_rules.specs.declared.content.Content.TheVariants.{Regular, Link, D
 use Rattle.fs_rules.specs.declared.file.File.{File}
 use Rattle.fs_rules.specs.declared.plain_tree.PlainTree.{PlainTree}
 use Rattle.fs_rules.specs.Handle.{number_in}
-use Rattle.fs_rules.specs.File.{kind_of, is_directory, slots_of}
+use Rattle.fs_rules.specs.File.{BlockMap, used, greatest, chains_up_to, kind_of, is_directory, slots_of}
 use Rattle.fs_rules.specs.Slots.{file_named}
 use Rattle.fs_rules.specs.Statuses.{Check, first_failure, stale, exist, acces, fbig}
 use Rattle.fs_rules.specs.Arguments.{file_of, argument_checks, is_dots}
@@ -26,10 +27,13 @@ use Rattle.fs_rules.specs.Making.{new_number, size_alone, create_checks, create_
 use Rattle.fs_rules.specs.Reading.{found_at}
 use Rattle.fs_rules.specs.Respond.{Responded, own_checks, edits_of, answer_of, decided, respond, checks}
 use Rattle.fs_tree.specs.Steps.{refused, named, named_row}
-use Rattle.fs_tree.specs.Makes.{existing_of, found_by}
+use Rattle.fs_tree.specs.Makes.{existing_of, found_by, taking}
 use Rattle.fs_tree.proofs.RespondLemmas.{behind_none, before_some, named_there}
 use Rattle.fs_tree.proofs.ChangeLemmas.{arguments_fail, check_fails}
+use Rattle.fs_tree.specs.NewFiles.{Makes, regular_of}
 use Rattle.fs_tree.proofs.MadeLemmas.{still_named, looked_up_found}
+use Rattle.fs_tree.proofs.NewNameLemmas.{row_directory}
+use Rattle.fs_tree.proofs.ToldLemmas.{told_new}
 
 -- rows of checks that decide alike, before others
 same_front : (a b more : List Check) → first_failure a ≡ first_failure b → first_failure (a ++ more) ≡ first_failure (b ++ more)
@@ -155,3 +159,44 @@ module _ (t : PlainTree) (dir : Handle) (name : List ℕ) (set : Sattr) (cred : 
         create_existing =
             existing
             ∙ sym (ap (λ (o : Option File). option_map_or (λ f. found_by (first_failure (existing_checks f set cred ++ limits t start (existing_edits now set m f))) t m now (existing_edits now set m f)) o (refused t stale)) live)
+
+-- ---- a new regular file
+
+-- no block uses none
+none : BlockMap
+none = empty
+
+no_greatest : greatest none ≡ None
+unfolding none
+no_greatest = go (greatest empty) refl where
+  go : (o : Option ℕ) → greatest empty ≡ o → o ≡ None
+  go None is = refl
+  go (Some g) is = absurd (let e : IsSome {T = List ℕ} None = subst IsSome (get-empty nat_cmp g) (greatest_has empty g is).0 in cc)
+
+no_blocks : used (Regular none) ≡ 0
+unfolding none
+no_blocks = ap (λ (n : ℕ). n + chains_up_to (greatest empty)) (len-empty nat_cmp (List ℕ)) ∙ ap (λ (o : Option ℕ). 0 + chains_up_to o) no_greatest
+
+pub regular_small : (set : Sattr) → 8 * used (regular_of set).content < 2 ^ 32
+unfolding none
+regular_small set = omega (arith, no_blocks)
+
+-- a directory with no link more
+none_more : (now : Stamp) (name : List ℕ) (m : ℕ) (d : File) → taking now name m (d.links + 0) d ≡ with_name now name m d
+none_more now name m d = ap (λ (l : ℕ). taking now name m l d) (let same : d.links + 0 ≡ d.links = omega arith in same)
+
+module _ (t : PlainTree) (dir : Handle) (name : List ℕ) (set : Sattr) (cred : Cred) (now : Stamp) (d : File) (there : file_of t dir.0 ≡ Some d)
+    (row : first_failure (named_row t cred (named dir.0 name acces)) ≡ None) (plain : is_dots name ≡ false) (absent : file_named (slots_of d.content) name ≡ None)
+    (checked : first_failure (new_checks set) ≡ None) where
+  of_directory : is_directory d.content ≡ true
+  of_directory = row_directory t cred (named dir.0 name acces) d there row
+
+  -- CREATE makes it
+  pub create_makes : Makes t (Create dir name set) cred now (number_in dir.0) d name (regular_of set)
+  create_makes = record {
+    arguments = create_arguments t dir name set cred now 0 d there row;
+    own = create_own t dir name set cred now 0 d there row plain absent ∙ checked;
+    edits = λ start. create_edits_are t dir name set cred now start d there row plain absent
+        ∙ ap (λ (g : File). Changed (number_in dir.0) g ∷ Made (new_number t start) (new_regular t (new_number t start) now set cred) ∷ []) (sym (none_more now name (new_number t start) d));
+    answers = λ m dead. told_new t dir name cred now d m there plain absent of_directory dead (d.links + 0) (new_regular t m now set cred);
+  }

@@ -25,3 +25,8 @@ pub mod GrowthLemmas
 pub mod PlanLemmas
 pub mod MovingLemmas
 pub mod ChainLemmas
+mod GivenLemmas
+mod LeftLemmas
+mod ToldLemmas
+mod VerdictLemmas
+mod AboutLemmas

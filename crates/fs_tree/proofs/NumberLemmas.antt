@@ -1,5 +1,5 @@
 -- Searches for free numbers.
-use Rattle.std.proofs.Common.{◌≡◌, ℕ, zero, suc, ◌+◌, ◌<◌, Bool, true, false, cond, List, [], ◌∷◌, ◌++◌, Some, None, ◌-◌, refl, sym, ap, subst, ◌∙◌, map, add-one, add-zero, add-suc, arith}
+use Rattle.std.proofs.Common.{◌≡◌, ℕ, zero, suc, ◌+◌, ◌<◌, ◌≤◌, Bool, true, false, cond, List, [], ◌∷◌, ◌++◌, Some, None, ◌-◌, refl, sym, ap, subst, ◌∙◌, map, add-one, add-zero, add-suc, arith}
 use Rattle.std.proofs.lemmas.Grind.{flat_map-append}
 use Rattle.std.proofs.lemmas.List.{append-nil}
 use Rattle.std.specs.Prelude.{find, flat_map}
@@ -44,6 +44,16 @@ module _ {X : Type 0} (p : X → Bool) (all part : ℕ → List X) (step : (n : 
   found i n x within none here =
       let same : suc i + (n - suc i) ≡ n = omega arith in
       subst (λ (k : ℕ). find p (all k) ≡ Some x) same (found_far (n - suc i) i x none here)
+
+  -- what is found is found in more
+  more_still : (d i : ℕ) (x : X) → find p (all i) ≡ Some x → find p (all (i + d)) ≡ Some x
+  more_still zero i x some = subst (λ (k : ℕ). find p (all k) ≡ Some x) (let same : i ≡ i + zero = omega arith in same) some
+  more_still (suc d) i x some =
+      subst (λ (k : ℕ). find p (all k) ≡ Some x) (let same : suc (i + d) ≡ i + suc d = omega arith in same)
+      (ap (find p) (step (i + d)) ∙ find_before p (all (i + d)) (part (i + d)) x (more_still d i x some))
+
+  pub longer : (i n : ℕ) (x : X) → i ≤ n → find p (all i) ≡ Some x → find p (all n) ≡ Some x
+  longer i n x le some = subst (λ (k : ℕ). find p (all k) ≡ Some x) (let same : i + (n - i) ≡ n = omega arith in same) (more_still (n - i) i x some)
 
 -- ---- numbers
 

@@ -6,12 +6,12 @@ use Rattle.rpc_msg.specs.declared.cred.Cred.{Cred}
 use Rattle.nfs_proto.specs.declared.call.Call.TheVariants.{Rename}
 use Rattle.nfs_proto.specs.declared.handle.Handle.{Handle}
 use Rattle.fs_rules.specs.declared.file.File.{File}
+use Rattle.fs_checks.specs.Rows.{pair_row}
 use Rattle.fs_rules.specs.declared.plain_tree.PlainTree.{PlainTree}
 use Rattle.fs_rules.specs.File.{is_directory}
 use Rattle.fs_rules.specs.Access.{may}
 use Rattle.fs_rules.specs.Statuses.{Check, first_failure, stale, notdir, acces}
 use Rattle.fs_rules.specs.Arguments.{taken, given, file_of, name_check, argument_checks}
-use Rattle.fs_tree.specs.Moving.{pair_row}
 
 module _ (t : PlainTree) (from : Handle) (from_name : List ℕ) (to : Handle) (to_name : List ℕ) (cred : Cred) where
   row : Option File → Option File → List Check

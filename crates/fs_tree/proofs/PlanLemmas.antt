@@ -35,10 +35,11 @@ use Rattle.fs_laws.proofs.LinkLemmas.{plain_content, IsFile, file_apart, IsNamed
 use Rattle.fs_laws.proofs.MoveLemmas.{around_here}
 use Rattle.fs_laws.proofs.ReplaceLemmas.{IsSource, turned_content, source_kind, source_apart}
 use Rattle.fs_laws.proofs.RenameLemmas.{moving, named_by, one_dir, way_around}
+use Rattle.fs_checks.specs.Rows.{pair_row}
 use Rattle.fs_tree.specs.declared.replaced.Replaced.TheVariants.{Nothing, LosesLink, IsFreed}
 use Rattle.fs_tree.specs.Steps.{refused}
 use Rattle.fs_tree.specs.Makes.{used_by, grown_limits}
-use Rattle.fs_tree.specs.Moving.{pair_row, source_row, is_same_number, is_dir_at, replaced_is, over_row, kind_check, chain_row, move_check, is_spent_at, spent_by, CanRise, fate_of, replaced_at, links_after, plan_of, CanReplace, MayMove}
+use Rattle.fs_tree.specs.Moving.{source_row, is_same_number, is_dir_at, replaced_is, over_row, kind_check, chain_row, move_check, is_spent_at, spent_by, CanRise, fate_of, replaced_at, links_after, plan_of, CanReplace, MayMove}
 use Rattle.fs_tree.proofs.RespondLemmas.{behind_none, no_limits, named_there}
 use Rattle.fs_tree.proofs.ChangeLemmas.{arguments_fail, check_fails, limit_fails, all_pass}
 use Rattle.fs_tree.proofs.TakeLemmas.{IsLight, light_freed, light_changed, light_dir, length_taken}

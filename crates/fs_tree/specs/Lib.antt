@@ -10,4 +10,6 @@ pub mod Removing
 pub mod Linking
 pub mod Meets
 pub mod Makes
+pub mod NewFiles
 pub mod Moving
+pub mod Given

@@ -1,5 +1,5 @@
 -- That what the code does is what the rules say.
-use Rattle.std.specs.Prelude.{◌≡◌, ◌≢◌, IfSome, IfNone}
+use Rattle.std.specs.Prelude.{◌≡◌, ◌≢◌, ℕ, Option, option_and_then, IfSome, IfNone}
 use Rattle.fs_rules.specs.declared.plain_tree.PlainTree.{PlainTree}
 use Rattle.fs_rules.specs.Respond.{Responded}
 use Rattle.fs_tree.specs.declared.response.Response.{Response}
@@ -11,3 +11,7 @@ pub record Meets (old : PlainTree) (r : Responded) (new : PlainTree) (response :
   pub tree : new ≡ r.tree
   pub changed : IfSome response.change (λ change. (new ≢ old) × (change.made ≡ r.made))
   pub unchanged : IfNone response.change (new ≡ old)
+
+-- the number and the generation of the file that a call made
+abbrev pub made_by : Response → Option (ℕ × ℕ)
+made_by response = option_and_then (λ change. change.made) response.change

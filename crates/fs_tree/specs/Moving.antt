@@ -14,10 +14,9 @@ use Rattle.fs_rules.specs.declared.file.File.{File}
 use Rattle.fs_rules.specs.declared.plain_tree.PlainTree.{PlainTree}
 use Rattle.fs_rules.specs.Lists.{below}
 use Rattle.fs_rules.specs.File.{slots_of, is_directory}
-use Rattle.fs_rules.specs.Access.{may}
 use Rattle.fs_rules.specs.Slots.{is_in_use, put_name, take_name}
 use Rattle.fs_rules.specs.Statuses.{Check, first_failure, fails_where, acces, noent, isdir, notdir, notempty, nametoolong, io}
-use Rattle.fs_rules.specs.Arguments.{at_number, is_dots, name_check, taken, given}
+use Rattle.fs_rules.specs.Arguments.{at_number, is_dots}
 use Rattle.fs_rules.specs.Edits.{Edit, Changed, Freed}
 use Rattle.fs_rules.specs.Making.{renamed}
 use Rattle.fs_rules.specs.Names.{Move, is_same, moves_directory, replaces, one_where, received, directory_edits, replaced_edits, move_edits, with_parent, leads_to, unlinked}
@@ -31,17 +30,6 @@ use Rattle.fs_tree.specs.Steps.{refused}
 use Rattle.fs_tree.specs.Taking.{HasRoom, CanLose}
 
 -- ---- the checks
-
--- those of the two names, where the handles name the files c and d
-abbrev pub pair_row : File → List ℕ → File → List ℕ → Cred → List Check
-pair_row c from_name d to_name cred =
-    fails_where notdir (not (is_directory c.content))
-    ∷ fails_where notdir (not (is_directory d.content))
-    ∷ name_check (taken [] from_name)
-    ∷ name_check (given [] to_name)
-    ∷ fails_where acces (not (may c cred 3))
-    ∷ fails_where acces (not (may d cred 3))
-    ∷ []
 
 -- neither name is "." or "..", and the first is there
 abbrev pub source_row : List ℕ → List ℕ → Option ℕ → List Check
@@ -163,7 +151,7 @@ pub record MayMove (t : PlainTree) (from : Handle) (from_name : List ℕ) (to : 
 
 -- a decision is that of the rules
 abbrev pub Decides : PlainTree → Handle → List ℕ → Handle → List ℕ → Cred → Decision → Type 0
-Decides t from from_name to to_name cred (Refused status) = (now : Stamp) → (start : ℕ) → respond t (Rename from from_name to to_name) cred now start ≡ refused t status
+Decides t from from_name to to_name cred (Refused status) = (now : Stamp) → (start : ℕ) → respond t (Rename from from_name to to_name) cred now start ≡ refused t status.0
 Decides t from from_name to to_name cred Same =
     (now : Stamp) → (start : ℕ) → respond t (Rename from from_name to to_name) cred now start ≡ record { answer = Plain; tree = t; made = None }
 Decides t from from_name to to_name cred (Moves p) = (now : Stamp) → (start : ℕ) → MayMove t from from_name to to_name cred now start p

@@ -2,22 +2,27 @@ ghost use Rattle.std.specs.Prelude.{◌≡◌, ◌==◌, false, option_and_then}
 ghost use Rattle.std.specs.Option.{option_map_or};
 ghost use Rattle.fs_rules.specs.Good.{IsGood, parent_at};
 ghost use Rattle.fs_rules.specs.Statuses.{first_failure};
+ghost use Rattle.fs_checks.specs.Verdict.{verdict};
 ghost use Rattle.fs_tree.specs.Moving.{chain_row};
 
-use crate::lookup::file_at;
-use crate::naming::parent_of;
-use crate::status::{IO, NAMETOOLONG};
+use crate::live::file_at;
+use crate::lookup::parent_of;
+use fs_checks::Status;
 use fs_rules::{PlainTree, ROOT};
 
 /// The most moves to a parent that lead from a directory to the root, for a directory to be moved into it.
 const MAX_PARENTS: u32 = 200;
 
-/// Why the directory `source` may not be moved into the directory `dir`: more than [`MAX_PARENTS`] moves to
-/// a parent lead from there to the root, or `source` is on that way.
+/// That the directory `source` may be moved into the directory `dir`.
+///
+/// # Errors
+///
+/// [`Status::NAMETOOLONG`] where more than [`MAX_PARENTS`] moves to a parent lead from there to the root, and
+/// [`Status::IO`] where `source` is on that way.
 #[tactic(auto, unfolding(fs_rules::specs::Statuses::first_failure))]
-pub(crate) fn chain_failure(tree: &PlainTree, dir: u32, source: u32) -> Option<u32>
+pub(crate) fn check_chain(tree: &PlainTree, dir: u32, source: u32) -> Result<(), Status>
     requires { IsGood tree.now }
-    ensures { result ≡ first_failure (chain_row tree.now dir source) }
+    ensures { result ≡ verdict (first_failure (chain_row tree.now dir source)) }
 {
     let mut at = Some(dir);
     let mut is_above = is_at(at, source);
@@ -26,12 +31,12 @@ pub(crate) fn chain_failure(tree: &PlainTree, dir: u32, source: u32) -> Option<u
         is_above |= is_at(at, source);
     }
     if !is_at(at, ROOT) {
-        return Some(NAMETOOLONG);
+        return Err(Status::NAMETOOLONG);
     }
     if is_above {
-        return Some(IO);
+        return Err(Status::IO);
     }
-    None
+    Ok(())
 }
 
 /// Whether a number is there and is this one.

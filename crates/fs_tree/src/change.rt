@@ -1,31 +1,36 @@
-ghost use Rattle.std.specs.Prelude.{◌≡◌, ◌-◌, ◌^◌, ◌<◌, Some, None, IsSome, IfNone};
+ghost use Rattle.std.specs.Prelude.{◌≡◌, ◌-◌, ◌^◌, ◌<◌, Some, None, IsSome, OnOk};
 ghost use Rattle.std.specs.FinMap as map;
 ghost use Rattle.nfs_proto.specs.declared.answer.Answer.TheVariants.{Attr};
 ghost use Rattle.fs_rules.specs.Good.{IsGood};
 ghost use Rattle.fs_rules.specs.File.{fattr_of};
 ghost use Rattle.fs_rules.specs.Edits.{changed_at};
+ghost use Rattle.fs_checks.specs.Verdict.{verdict};
 ghost use Rattle.fs_tree.specs.Steps.{Fits, change_limits};
 
 use crate::limits::is_last;
 use crate::response::{Change, Response};
 use crate::space::free_blocks;
-use crate::status::{FBIG, NOSPC};
+use fs_checks::Status;
 use fs_rules::{Answer, Blocks, Content, Fattr, File, PlainTree, Stamp};
 use std::alloc::Global;
 
-/// Why a file that was changed so often may not be changed again, or not grow by so many blocks.
-pub(crate) fn limit_failure(tree: &PlainTree, change: u64, rise: usize) -> Option<u32>
+/// That a file that was changed so often may be changed again, and grow by so many blocks.
+///
+/// # Errors
+///
+/// [`Status::FBIG`] where it was changed too often, and [`Status::NOSPC`] where so many blocks are not free.
+pub(crate) fn check_limits(tree: &PlainTree, change: u64, rise: usize) -> Result<(), Status>
     requires { IsGood tree.now }
-    ensures exact { result ≡ change_limits tree.now change rise }
-    ensures rises { IfNone result (change < 2 ^ 64 - 1) }
+    ensures exact { result ≡ verdict (change_limits tree.now change rise) }
+    ensures rises { OnOk result (change < 2 ^ 64 - 1) }
 {
     if is_last(change) {
-        return Some(FBIG);
+        return Err(Status::FBIG);
     }
     if (free_blocks(tree) as usize) < rise {
-        return Some(NOSPC);
+        return Err(Status::NOSPC);
     }
-    None
+    Ok(())
 }
 
 /// A file that stands for one that is taken out of a tree for a while. It takes no memory.

@@ -1,10 +1,11 @@
 use crate::plan::Plan;
+use fs_checks::Status;
 
 /// What the rules say of a RENAME.
 #[derive(Clone, Copy, Debug, PartialEq, Eq)]
 pub(crate) enum Decision {
     /// It is answered with this status.
-    Refused(u32),
+    Refused(Status),
     /// Both names are those of one file, and nothing changes.
     Same,
     /// The plan is carried out.

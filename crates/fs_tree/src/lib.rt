@@ -6,45 +6,45 @@
 //! file's bytes lie. A caller hands in the moment, who calls, and the number for a file that is made.
 #![tactic(auto)]
 
-mod attributes;
 mod call_bytes;
 mod chain;
 mod change;
-mod changing;
-mod creating;
+mod create;
 mod decision;
 mod directory;
-mod giving;
+mod give;
+mod given;
 mod limits;
-mod linking;
+mod link;
+mod live;
 mod lookup;
-mod making;
-mod making_dir;
+mod make;
+mod make_dir;
 mod moving;
-mod naming;
+mod new_file;
 mod numbers;
 mod plan;
 mod planning;
 mod procedures;
-mod reading;
-mod removing;
-mod removing_directories;
-mod renaming;
+mod read;
+mod remove;
+mod remove_dir;
+mod rename;
 mod replaced;
 mod response;
+mod set_attr;
 mod space;
-mod status;
-mod sym_linking;
-mod taking;
+mod sym_link;
+mod take;
 mod tree;
+mod write;
 
-pub use attributes::MAX_FILE_BYTES;
+pub use fs_checks::{MAX_FILE_BYTES, MAX_NAME_BYTES};
 pub use fs_listing::Listing;
 pub use fs_rules::{
     Answer, Attrs, BLOCK_BYTES, Blocks, Bytes, Call, Content, Cred, Entry, Fattr, File, Geometry,
     Handle, Kept, MAX_BLOCKS, MAX_INODES, MAX_MEMORIES, MAX_NODES, NoMemory, PlainTree,
     REFERENCES_PER_CHAIN, ROOT, Reference, SLOTS_PER_BLOCK, Sattr, Slots, Stamp, handle_of, may,
 };
-pub use naming::MAX_NAME_BYTES;
 pub use response::{Change, Response};
 pub use tree::Tree;

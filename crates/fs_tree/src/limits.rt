@@ -1,16 +1,17 @@
-ghost use Rattle.std.specs.Prelude.{◌≡◌, ◌^◌, ◌-◌, ◌<◌, ◌≤◌, ◌==◌, nat_lt, Some, false, IfNone};
+ghost use Rattle.std.specs.Prelude.{◌≡◌, ◌^◌, ◌-◌, ◌<◌, ◌≤◌, ◌==◌, nat_lt, Some, false, OnOk};
 ghost use Rattle.std.specs.FinMap as map;
 ghost use Rattle.fs_rules.specs.declared.file.File.{File as AFile};
 ghost use Rattle.fs_rules.specs.Good.{IsGood};
 ghost use Rattle.fs_rules.specs.File.{used};
 ghost use Rattle.fs_rules.specs.Numbers.{free_blocks};
+ghost use Rattle.fs_checks.specs.Verdict.{verdict};
 ghost use Rattle.fs_tree.specs.Makes.{grown_limits, used_by};
 ghost use Rattle.fs_tree.specs.Moving.{is_spent_at};
 
-use crate::lookup::file_at;
-use crate::making::used_by;
+use crate::live::file_at;
+use crate::make::used_by;
 use crate::space::free_blocks;
-use crate::status::{FBIG, NOSPC};
+use fs_checks::Status;
 use fs_rules::{File, PlainTree};
 
 /// The most data of a READ or a WRITE, in bytes (RFC 1094, section 2.3.1).
@@ -43,26 +44,29 @@ pub(crate) fn is_last(change: u64) -> bool
     change == u64::MAX
 }
 
-/// Which limit forbids that a directory gets so many links and slots, where a change number that would rise
-/// may have its last value.
-pub(crate) fn growth_failure(
+/// That a directory may get so many links and slots, where a change number that would rise may be spent.
+///
+/// # Errors
+///
+/// [`Status::FBIG`] where it is, and [`Status::NOSPC`] where there is no room.
+pub(crate) fn check_growth(
     tree: &PlainTree,
     is_spent: bool,
     links: u32,
     dir: &File,
     slots: usize,
-) -> Option<u32>
+) -> Result<(), Status>
     requires { IsGood tree.now }
-    ensures exact { result ≡ grown_limits tree.now is_spent links dir.now slots }
-    ensures rises { IfNone result (is_spent ≡ false) }
+    ensures exact { result ≡ verdict (grown_limits tree.now is_spent links dir.now slots) }
+    ensures rises { OnOk result (is_spent ≡ false) }
 {
     if is_spent {
-        return Some(FBIG);
+        return Err(Status::FBIG);
     }
     if links > MAX_LINKS || slots > MAX_SLOTS || is_full(tree, dir, slots) {
-        return Some(NOSPC);
+        return Err(Status::NOSPC);
     }
-    None
+    Ok(())
 }
 
 /// Whether there are too few free blocks for a directory with so many slots.

@@ -1,33 +1,139 @@
-ghost use Rattle.std.specs.Prelude.{◌≡◌, IfSome};
-ghost use Rattle.std.specs.Option.{option_copied};
-ghost use Rattle.std.specs.FinMap as map;
+ghost use Rattle.std.specs.Prelude.{◌≡◌, ◌≤◌, length, ◌||◌, Some, None, is_some, IfOk, IfErr, OnOk};
 ghost use Rattle.fs_rules.specs.Good.{IsGood};
-ghost use Rattle.fs_rules.specs.Arguments.{file_of};
-ghost use Rattle.fs_tree.specs.Steps.{Fits};
+ghost use Rattle.fs_rules.specs.File.{parent_of, slots_of};
+ghost use Rattle.fs_rules.specs.Slots.{file_named};
+ghost use Rattle.fs_rules.specs.Statuses.{first_failure};
+ghost use Rattle.fs_rules.specs.Arguments.{is_dots};
+ghost use Rattle.fs_rules.specs.Reading.{found_at, target, lookup_answer, read_dir_answer};
+ghost use Rattle.fs_tree.specs.Steps.{answer_about, lookup_row, read_dir_row};
 
-use fs_rules::{File, Handle, PlainTree, handle_of, number_at};
+use crate::live::{file_at, file_of};
+use fs_checks::{Facts, Status, is_dot, is_dot_dot, is_dots};
+use fs_content::{file_named, list_names};
+use fs_rules::{
+    Answer, Content, Cred, File, Handle, NoMemory, PlainTree, SEARCH, Slots, handle_of, number_at,
+};
+use std::alloc::Global;
 
-/// The file that a handle names: it lives, and the handle is that of its number and generation
-/// (`docs/FORMATS.md`, "Handles").
-pub(crate) fn file_of<'a>(tree: &'a PlainTree, handle: &Handle) -> Option<&'a File>
+/// LOOKUP: the file that a name names (RFC 1094, section 2.2.5).
+pub(crate) fn lookup(tree: &PlainTree, handle: &Handle, name: &[u8], cred: &Cred) -> Answer
     requires { IsGood tree.now }
-    ensures value { option_copied result ≡ file_of tree.now handle.now.0 }
-    ensures fits { IfSome result (λ f. Fits f.now) }
+    ensures { result ≡ answer_about tree.now handle.now.0 (λ n d. lookup_row n d name.now cred.now) (λ n d. lookup_answer tree.now n d name.now) }
 {
-    let number = number_at(handle);
-    let file = file_at(tree, number)?;
-    if *handle == handle_of(number, file.generation) {
-        Some(file)
-    } else {
-        None
+    let Some(dir) = file_of(tree, handle) else {
+        return Answer::Fault(Status::STALE.0);
+    };
+    match looked_up(number_at(handle), dir, name, cred) {
+        Ok(number) => found_at(tree, number),
+        Err(status) => Answer::Fault(status.0),
     }
 }
 
-/// The file with a number, if it lives.
-pub(crate) fn file_at(tree: &PlainTree, number: u32) -> Option<&File>
-    requires { IsGood tree.now }
-    ensures value { option_copied result ≡ map.get tree.now.files number }
-    ensures fits { IfSome result (λ f. Fits f.now) }
+// The number of the file that a name names in a file, where the checks of LOOKUP pass.
+fn looked_up(number: u32, dir: &File, name: &[u8], cred: &Cred) -> Result<u32, Status>
+    ensures target { IfOk result (λ m. target number dir.now name.now ≡ Some m) }
+    ensures passes { OnOk result (first_failure (lookup_row number dir.now name.now cred.now) ≡ None) }
+    ensures fails { IfErr result (λ s. first_failure (lookup_row number dir.now name.now cred.now) ≡ Some s.0) }
 {
-    tree.files.get(number)
+    Facts::of_file(dir).check_named(name, Status::NOENT, cred, SEARCH)?;
+    match target(number, dir, name) {
+        Some(number) => Ok(number),
+        None => Err(Status::NOENT),
+    }
+}
+
+/// The file with a number, and what a client is told of it.
+pub(crate) fn found_at(tree: &PlainTree, number: u32) -> Answer
+    requires { IsGood tree.now }
+    ensures { result ≡ found_at tree.now number }
+{
+    match file_at(tree, number) {
+        Some(file) => Answer::Found {
+            file: handle_of(number, file.generation),
+            attr: file.fattr(number),
+        },
+        None => Answer::Fault(Status::STALE.0),
+    }
+}
+
+/// READDIR: names of a directory behind a cookie (RFC 1094, section 2.2.17).
+pub(crate) fn read_dir(
+    alloc: Global,
+    tree: &PlainTree,
+    handle: &Handle,
+    cookie: u32,
+    count: u32,
+    cred: &Cred,
+) -> Result<Answer, NoMemory>
+    requires { IsGood tree.now }
+    ensures { IfOk result (λ answer. answer ≡ answer_about tree.now handle.now.0 (λ n d. read_dir_row d cred.now) (λ n d. read_dir_answer n d cookie count)) }
+{
+    let Some(dir) = file_of(tree, handle) else {
+        return Ok(Answer::Fault(Status::STALE.0));
+    };
+    match Facts::of_file(dir).check_list(cred) {
+        Ok(()) => names_of(alloc, number_at(handle), dir, cookie, count),
+        Err(status) => Ok(Answer::Fault(status.0)),
+    }
+}
+
+// The names of a directory; another file has none.
+#[tactic(auto, unfolding(fs_rules::specs::Reading::read_dir_answer))]
+fn names_of(
+    alloc: Global,
+    number: u32,
+    dir: &File,
+    cookie: u32,
+    count: u32,
+) -> Result<Answer, NoMemory>
+    requires { length (slots_of dir.now.content) ≤ 7650 }
+    ensures { IfOk result (λ answer. answer ≡ read_dir_answer number dir.now cookie count) }
+{
+    match &dir.content {
+        Content::Directory { slots, parent } => {
+            list_names(alloc, number, *parent, slots, cookie, count)
+        }
+        _ => list_names(alloc, number, number, &Slots::new(alloc), cookie, count),
+    }
+}
+
+// The number of the file that a name names in a directory: "." is itself, and ".." its parent.
+#[tactic(auto, unfolding(fs_rules::specs::Reading::target))]
+fn target(number: u32, dir: &File, name: &[u8]) -> Option<u32>
+    ensures { result ≡ target number dir.now name.now }
+{
+    if is_dot(name) {
+        return Some(number);
+    }
+    if is_dot_dot(name) {
+        return parent_of(&dir.content);
+    }
+    number_named(&dir.content, name)
+}
+
+/// The directory in which the name of a directory lies; another file has none.
+pub(crate) fn parent_of(content: &Content) -> Option<u32>
+    ensures { result ≡ parent_of content.now }
+{
+    match content {
+        Content::Directory { parent, .. } => Some(*parent),
+        _ => None,
+    }
+}
+
+/// The number that a name of a directory names; another file has no names.
+pub(crate) fn number_named(content: &Content, name: &[u8]) -> Option<u32>
+    ensures { result ≡ file_named (slots_of content.now) name.now }
+{
+    match content {
+        Content::Directory { slots, .. } => file_named(slots, name),
+        _ => None,
+    }
+}
+
+/// Whether no new file of a directory can get a name: it is "." or "..", or is there.
+pub(crate) fn is_taken(content: &Content, name: &[u8]) -> bool
+    ensures { result ≡ (is_dots name.now || is_some (file_named (slots_of content.now) name.now)) }
+{
+    is_dots(name) || number_named(content, name).is_some()
 }

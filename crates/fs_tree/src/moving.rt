@@ -13,10 +13,10 @@ ghost use Rattle.fs_tree.specs.declared.replaced.Replaced.TheVariants.{IsFreed};
 ghost use Rattle.fs_tree.specs.Moving.{moved_edits, exchanged, CanMove, CanReplace};
 
 use crate::change::{placeholder, put};
-use crate::making::{content_with, put_entry};
+use crate::make::{content_with, put_entry};
 use crate::plan::Plan;
 use crate::replaced::Replaced;
-use crate::taking::{emptied, keep, take_from, take_link};
+use crate::take::{emptied, keep, take_from, take_link};
 use fs_rules::{Bytes, Content, Entry, File, NoMemory, PlainTree, Stamp};
 use std::alloc::Global;
 
@@ -134,7 +134,7 @@ fn exchange(
     ensures err { OnErr result (tree.new ≡ tree.old) }
 {
     let Some(dir) = tree.files.replace(number, placeholder(alloc)) else {
-        return Ok(());
+        return Err(NoMemory);
     };
     match with_exchange(alloc, dir, entry, old_name, links, now) {
         Ok(dir) => {

@@ -8,20 +8,22 @@ ghost use Rattle.fs_rules.specs.File.{slots_of, is_directory};
 ghost use Rattle.fs_rules.specs.Slots.{file_named, is_in_use};
 ghost use Rattle.fs_rules.specs.Statuses.{first_failure, fails_where, acces, notempty};
 ghost use Rattle.fs_rules.specs.Arguments.{file_of, argument_checks};
-ghost use Rattle.fs_tree.specs.Moving.{pair_row, source_row, replaced_is, over_row, kind_check, move_check, goes_across, fate_of, replaced_at, plan_of, spent_by, CanRise, Decides};
+ghost use Rattle.fs_checks.specs.Rows.{pair_row};
+ghost use Rattle.fs_checks.specs.Verdict.{verdict};
+ghost use Rattle.fs_tree.specs.Moving.{source_row, replaced_is, over_row, kind_check, move_check, goes_across, fate_of, replaced_at, plan_of, spent_by, CanRise, Decides};
 
-use crate::chain::{chain_failure, is_at};
+use crate::chain::{check_chain, is_at};
 use crate::decision::Decision;
-use crate::limits::{growth_failure, is_last, is_spent};
-use crate::lookup::{file_at, file_of};
-use crate::making::slots_with;
-use crate::naming::{directory_failure, is_dots, name_failure, number_named};
+use crate::limits::{check_growth, is_last, is_spent};
+use crate::live::{file_at, live_file};
+use crate::lookup::number_named;
+use crate::make::slots_with;
 use crate::plan::Plan;
-use crate::removing::{has_other_names, is_directory, is_directory_at};
-use crate::removing_directories::has_names;
+use crate::remove::{has_other_names, is_directory, is_directory_at};
+use crate::remove_dir::has_names;
 use crate::replaced::Replaced;
-use crate::status::{ACCES, ISDIR, NOENT, NOTDIR, NOTEMPTY, STALE};
-use fs_rules::{Content, Cred, File, Handle, PlainTree, SEARCH, WRITE, number_at};
+use fs_checks::{Facts, Status, check_pair, is_dots};
+use fs_rules::{Content, Cred, File, Handle, PlainTree, number_at};
 
 /// What the rules say of a RENAME of a name of one directory to a name of another one, or of the same (RFC
 /// 1094, section 2.2.12).
@@ -48,20 +50,15 @@ pub(crate) fn decided(
         return Decision::Same;
     }
     let (a, b) = (number_at(from), number_at(to));
-    if let Some(status) = move_failure(tree, a, b, source, replaced) {
+    if let Err(status) = check_move(tree, a, b, source, replaced) {
         return Decision::Refused(status);
     }
     let plan = plan(tree, a, b, to_dir, source, replaced);
     let is_spent = is_any_spent(tree, from_dir, to_dir, source, replaced);
-    match growth_failure(
-        tree,
-        is_spent,
-        plan.links,
-        to_dir,
-        slots_with(&to_dir.content, to_name),
-    ) {
-        Some(status) => Decision::Refused(status),
-        None => Decision::Moves(plan),
+    let slots = slots_with(&to_dir.content, to_name);
+    match check_growth(tree, is_spent, plan.links, to_dir, slots) {
+        Err(status) => Decision::Refused(status),
+        Ok(()) => Decision::Moves(plan),
     }
 }
 
@@ -73,52 +70,18 @@ fn directories_of<'a>(
     to: &Handle,
     to_name: &[u8],
     cred: &Cred,
-) -> Result<(&'a File, &'a File), u32>
+) -> Result<(&'a File, &'a File), Status>
     requires { IsGood tree.now }
     ensures there { IfOk result (λ r. (file_of tree.now from.now.0 ≡ Some r.0.now) × (file_of tree.now to.now.0 ≡ Some r.1.now)) }
     ensures passes { IfOk result (λ r. first_failure (pair_row r.0.now from_name.now r.1.now to_name.now cred.now) ≡ None) }
-    ensures fails { IfErr result (λ status. first_failure (argument_checks tree.now (Rename from.now from_name.now to.now to_name.now) cred.now) ≡ Some status) }
+    ensures fails { IfErr result (λ status. first_failure (argument_checks tree.now (Rename from.now from_name.now to.now to_name.now) cred.now) ≡ Some status.0) }
 {
-    let Some(from_dir) = file_of(tree, from) else {
-        return Err(STALE);
-    };
-    let Some(to_dir) = file_of(tree, to) else {
-        return Err(STALE);
-    };
-    match pair_failure(from_dir, from_name, to_dir, to_name, cred) {
-        Some(status) => Err(status),
-        None => Ok((from_dir, to_dir)),
-    }
-}
-
-// Why the names may not be taken from one file and given in the other.
-#[tactic(auto, unfolding(fs_rules::specs::Statuses::first_failure))]
-fn pair_failure(
-    from_dir: &File,
-    from_name: &[u8],
-    to_dir: &File,
-    to_name: &[u8],
-    cred: &Cred,
-) -> Option<u32>
-    ensures { result ≡ first_failure (pair_row from_dir.now from_name.now to_dir.now to_name.now cred.now) }
-{
-    directory_failure(from_dir)
-        .or(directory_failure(to_dir))
-        .or(name_failure(from_name, NOENT))
-        .or(name_failure(to_name, ACCES))
-        .or(access_failure(from_dir, cred))
-        .or(access_failure(to_dir, cred))
-}
-
-// Why the caller may not take or give names in a directory.
-fn access_failure(dir: &File, cred: &Cred) -> Option<u32>
-    ensures { result ≡ fails_where acces (not (may dir.now cred.now 3)) }
-{
-    if dir.may(cred, WRITE | SEARCH) {
-        None
-    } else {
-        Some(ACCES)
-    }
+    let from_dir = live_file(tree, from)?;
+    let to_dir = live_file(tree, to)?;
+    let from_facts = Facts::of_file(from_dir);
+    let to_facts = Facts::of_file(to_dir);
+    check_pair(&from_facts, from_name, &to_facts, to_name, cred)?;
+    Ok((from_dir, to_dir))
 }
 
 // The numbers of the file that is moved and of the one that has the second name, if there is one; or why
@@ -129,36 +92,36 @@ fn files_of(
     from_name: &[u8],
     to_dir: &File,
     to_name: &[u8],
-) -> Result<(u32, Option<u32>), u32>
+) -> Result<(u32, Option<u32>), Status>
     ensures named { IfOk result (λ r. (file_named (slots_of from_dir.now.content) from_name.now ≡ Some r.0) × (file_named (slots_of to_dir.now.content) to_name.now ≡ r.1)) }
     ensures passes { OnOk result (first_failure (source_row from_name.now to_name.now (file_named (slots_of from_dir.now.content) from_name.now)) ≡ None) }
-    ensures fails { IfErr result (λ status. first_failure (source_row from_name.now to_name.now (file_named (slots_of from_dir.now.content) from_name.now)) ≡ Some status) }
+    ensures fails { IfErr result (λ status. first_failure (source_row from_name.now to_name.now (file_named (slots_of from_dir.now.content) from_name.now)) ≡ Some status.0) }
 {
     if is_dots(from_name) || is_dots(to_name) {
-        return Err(ACCES);
+        return Err(Status::ACCES);
     }
     match number_named(&from_dir.content, from_name) {
         Some(source) => Ok((source, number_named(&to_dir.content, to_name))),
-        None => Err(NOENT),
+        None => Err(Status::NOENT),
     }
 }
 
-// Why the file may not be moved from one directory to the other, over the one that is replaced.
-fn move_failure(
+// That the file may be moved from one directory to the other, over the one that is replaced.
+fn check_move(
     tree: &PlainTree,
     from: u32,
     to: u32,
     source: u32,
     replaced: Option<u32>,
-) -> Option<u32>
+) -> Result<(), Status>
     requires { IsGood tree.now }
-    ensures { result ≡ move_check tree.now from to source replaced }
+    ensures { result ≡ verdict (move_check tree.now from to source replaced) }
 {
-    let kind = kind_failure(tree, source, replaced);
+    check_kind(tree, source, replaced)?;
     if goes_across(tree, from, to, source) {
-        return kind.or(chain_failure(tree, to, source));
+        return check_chain(tree, to, source);
     }
-    kind
+    Ok(())
 }
 
 // Whether a directory goes from one directory to another.
@@ -169,36 +132,34 @@ fn goes_across(tree: &PlainTree, from: u32, to: u32, source: u32) -> bool
     is_directory_at(tree, source) && from != to
 }
 
-// Why the file may not be moved over the one that is replaced.
-fn kind_failure(tree: &PlainTree, source: u32, replaced: Option<u32>) -> Option<u32>
+// That the file may be moved over the one that is replaced, if there is one.
+fn check_kind(tree: &PlainTree, source: u32, replaced: Option<u32>) -> Result<(), Status>
     requires { IsGood tree.now }
-    ensures { result ≡ kind_check tree.now source replaced }
+    ensures { result ≡ verdict (kind_check tree.now source replaced) }
 {
-    let file = file_at(tree, replaced?)?;
-    over_failure(is_directory_at(tree, source), file)
+    let Some(number) = replaced else {
+        return Ok(());
+    };
+    match file_at(tree, number) {
+        Some(file) => check_over(is_directory_at(tree, source), file),
+        None => Ok(()),
+    }
 }
 
-// Why a directory, or another file, may not be moved over a file.
+// That a directory, or another file, may be moved over a file.
 #[tactic(auto, unfolding(fs_rules::specs::Statuses::first_failure))]
-fn over_failure(is_dir: bool, replaced: &File) -> Option<u32>
-    ensures { result ≡ first_failure (over_row is_dir replaced.now) }
+fn check_over(is_dir: bool, replaced: &File) -> Result<(), Status>
+    ensures { result ≡ verdict (first_failure (over_row is_dir replaced.now)) }
 {
     match (is_dir, is_directory(&replaced.content)) {
-        (true, false) => Some(NOTDIR),
-        (false, true) => Some(ISDIR),
-        _ => names_failure(&replaced.content),
+        (true, false) => return Err(Status::NOTDIR),
+        (false, true) => return Err(Status::ISDIR),
+        _ => {}
     }
-}
-
-// Why a file with names in use is not replaced.
-fn names_failure(content: &Content) -> Option<u32>
-    ensures { result ≡ fails_where notempty (is_in_use (slots_of content.now)) }
-{
-    if has_names(content) {
-        Some(NOTEMPTY)
-    } else {
-        None
+    if has_names(&replaced.content) {
+        return Err(Status::NOTEMPTY);
     }
+    Ok(())
 }
 
 // What is moved, and what becomes of the file that is replaced.

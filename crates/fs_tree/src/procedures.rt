@@ -4,17 +4,18 @@ ghost use Rattle.fs_rules.specs.Good.{IsGood};
 ghost use Rattle.fs_rules.specs.Respond.{respond, IsPick};
 ghost use Rattle.fs_tree.specs.Meets.{Meets};
 
-use crate::changing::{set_attr, write};
-use crate::creating::create;
-use crate::linking::link;
-use crate::making_dir::make_dir;
-use crate::naming::{lookup, read_dir};
-use crate::reading::{get_attr, read, read_link, stat_fs};
-use crate::removing::remove;
-use crate::removing_directories::remove_dir;
-use crate::renaming::rename;
+use crate::create::create;
+use crate::link::link;
+use crate::lookup::{lookup, read_dir};
+use crate::make_dir::make_dir;
+use crate::read::{get_attr, read, read_link, stat_fs};
+use crate::remove::remove;
+use crate::remove_dir::remove_dir;
+use crate::rename::rename;
 use crate::response::Response;
-use crate::sym_linking::sym_link;
+use crate::set_attr::set_attr;
+use crate::sym_link::sym_link;
+use crate::write::write;
 use fs_rules::{Answer, Call, Cred, NoMemory, PlainTree, Stamp};
 use std::alloc::Global;
 

@@ -1,7 +1,9 @@
 ghost use Rattle.std.specs.Prelude.{◌≡◌, None, Some};
-ghost use Rattle.nfs_proto.specs.declared.answer.Answer.TheVariants.{Found};
+ghost use Rattle.nfs_proto.specs.declared.answer.Answer.TheVariants.{Fault, Found};
 ghost use Rattle.fs_rules.specs.Handle.{handle};
+ghost use Rattle.fs_tree.specs.Meets.{made_by};
 
+use fs_checks::Status;
 use fs_rules::{Answer, Fattr, handle_of};
 
 /// What a call is answered, and what it changed.
@@ -13,6 +15,13 @@ pub struct Response {
 }
 
 impl Response {
+    // The number and the generation of the file that was made, if one was.
+    pub(crate) fn made(&self) -> Option<(u32, u32)>
+        ensures { result ≡ made_by self.now }
+    {
+        self.change?.made
+    }
+
     // An answer that changes nothing.
     pub(crate) fn told(answer: Answer) -> Response
         ensures answer { result.answer ≡ answer }
@@ -22,6 +31,14 @@ impl Response {
             answer,
             change: None,
         }
+    }
+
+    // A call that is refused, which changes nothing.
+    pub(crate) fn refused(status: Status) -> Response
+        ensures answer { result.answer ≡ Fault status.0 }
+        ensures change { result.change ≡ None }
+    {
+        Response::told(Answer::Fault(status.0))
     }
 
     // What is told of a file after a change, which made the file or did not.

@@ -30,15 +30,11 @@ pub(crate) fn free_blocks(tree: &PlainTree) -> u32
     tree.geometry.memories * tree.geometry.blocks - used_in_all(tree)
 }
 
-// How many blocks all files use.
+// How many blocks all files use, which are no more than there are.
 fn used_in_all(tree: &PlainTree) -> u32
     requires { IsGood tree.now }
     ensures sum { result ≡ used_in_all tree.now }
     ensures fits { result ≤ tree.now.geometry.memories * tree.now.geometry.blocks }
 {
-    let mut sum = 0;
-    for (_, file) in tree.files.iter() {
-        sum += file.content.used();
-    }
-    sum as u32
+    tree.files.used() as u32
 }

@@ -9,12 +9,13 @@ ghost use Rattle.fs_listing.specs.Listing.{listing};
 ghost use Rattle.fs_tree.specs.Meets.{Meets};
 
 use crate::call_bytes::call_bytes;
+use crate::given::GivenNumbers;
 use crate::numbers::first_free;
 use crate::procedures::carry_out;
 use crate::response::Response;
 use fs_listing::{Listing, listing};
 use fs_rules::{
-    Answer, Call, Content, Cred, File, Geometry, NoMemory, PlainTree, ROOT, Slots, Stamp,
+    Answer, Call, Content, Cred, File, Files, Geometry, NoMemory, PlainTree, ROOT, Slots, Stamp,
 };
 use sfs_base::Table;
 use std::alloc::Global;
@@ -23,7 +24,9 @@ use std::marker::Model;
 /// A file system in memory. A contract sees the plain tree, which is good at every moment.
 #[derive(Debug, Drop)]
 pub struct Tree {
-    pub(crate) plain: PlainTree,
+    plain: PlainTree,
+    // So a free number is found without a look at each that is not.
+    given: GivenNumbers,
     alloc: Global,
 }
 
@@ -31,6 +34,7 @@ impl Model for Tree {
     ghost use Rattle.fs_rules.specs.declared.plain_tree.PlainTree.{PlainTree as Plain};
     ghost use Rattle.fs_rules.specs.Good.{IsGood};
     ghost use Rattle.fs_rules.specs.contracts.plain_tree.PlainTree.{the_row};
+    ghost use Rattle.fs_tree.specs.Given.{AllAreGiven};
 
     ghost Value = { Plain };
 
@@ -38,7 +42,7 @@ impl Model for Tree {
 
     ghost view = { λ t. t.plain };
 
-    ghost invariant = { λ t. IsGood t.plain };
+    ghost invariant = { λ t. IsGood t.plain × AllAreGiven t.plain t.given.counts };
 }
 
 impl Tree {
@@ -48,14 +52,17 @@ impl Tree {
         ensures fresh { IfOk result (λ t. t ≡ fresh geometry) }
         ensures good { IfOk result IsGood }
     {
-        let mut files = Table::new(alloc);
+        let mut files = Files::new(alloc);
         files.insert(ROOT, fresh_root(alloc))?;
+        let mut given = GivenNumbers::none();
+        given.count(ROOT);
         Ok(Tree {
             plain: PlainTree {
                 geometry,
                 files,
                 freed: Table::new(alloc),
             },
+            given,
             alloc,
         })
     }
@@ -74,7 +81,7 @@ impl Tree {
         requires { start < self.now.geometry.memories }
         ensures { result ≡ first_free self.now start }
     {
-        first_free(&self.plain, start)
+        first_free(&self.plain, &self.given, start)
     }
 
     /// The lines that tell all files, their names and their data (`docs/FORMATS.md`, "Listings").
@@ -126,7 +133,11 @@ impl Tree {
         ensures told { IfOk result (λ r. IsTold r.answer) }
     {
         call_bytes(call);
-        carry_out(self.alloc, &mut self.plain, call, cred, now, pick)
+        let response = carry_out(self.alloc, &mut self.plain, call, cred, now, pick)?;
+        if let Some((number, _)) = response.made() {
+            self.given.count(number);
+        }
+        Ok(response)
     }
 }
 

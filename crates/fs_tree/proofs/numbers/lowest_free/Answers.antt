@@ -1,24 +1,13 @@
-use Rattle.std.proofs.Common.{◌≡◌, ◌∙◌, sym, true, false, [], ◌∷◌, map}
+use Rattle.std.proofs.Common.{[], ◌∷◌, map, sym, ◌∙◌, arith}
 use Rattle.fs_rules.specs.Lists.{below}
 use Rattle.fs_rules.specs.Numbers.{is_free, number_of}
-use Rattle.fs_tree.proofs.NumberLemmas.{one_number, none_more, found, find_one, find_none, find_zero}
+use Rattle.fs_tree.proofs.NumberLemmas.{one_number, longer}
 use Rattle.fs_tree.proofs.numbers.lowest_free.Goals as goal
 
-pub loop-inode-init : goal.loop-inode-init
-loop-inode-init c = find_zero (is_free c.args.tree.now) (number_of c.args.memory)
-
-pub returns-then-is_free : goal.returns-then-is_free
-returns-then-is_free c =
+pub returns-in-Some : goal.returns-in-Some
+returns-in-Some c =
     let t = c.args.tree.now in
     let numbers = number_of c.args.memory in
-    let here : is_free t (numbers c.loop-inode.inode) ≡ true = sym c.is_free.ensures ∙ c.if-is_free.true in
-    sym (found (is_free t) (λ n. map numbers (below n)) (λ n. numbers n ∷ []) (one_number numbers) c.loop-inode.inode t.geometry.inodes (numbers c.loop-inode.inode)
-    c.loop-inode-test.true c.loop-inode.invariant (find_one (is_free t) (numbers c.loop-inode.inode) here))
-
-pub loop-inode-preserved : goal.loop-inode-preserved
-loop-inode-preserved c =
-    let t = c.args.tree.now in
-    let numbers = number_of c.args.memory in
-    let here : is_free t (numbers c.loop-inode.inode) ≡ false = sym c.is_free.ensures ∙ c.if-is_free.false in
-    none_more (is_free t) (λ n. map numbers (below n)) (λ n. numbers n ∷ []) (one_number numbers) c.loop-inode.inode
-    c.loop-inode.invariant (find_none (is_free t) (numbers c.loop-inode.inode) here)
+    let least = c.min-given.ensures in
+    sym (longer (is_free t) (λ n. map numbers (below n)) (λ n. numbers n ∷ []) (one_number numbers) c.min-given.result t.geometry.inodes c.in-Some.number
+    (omega (arith, least)) (sym c.lowest_freed.ensures ∙ c.in-Some.is))

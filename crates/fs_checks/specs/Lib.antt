@@ -1,0 +1,4 @@
+pub mod Verdict
+pub mod Facts
+pub mod Rows
+pub mod Laws

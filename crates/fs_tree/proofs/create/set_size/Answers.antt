@@ -1,0 +1,96 @@
+use Rattle.std.proofs.Common.{◌≡◌, ◌-◌, ◌^◌, ◌<◌, Some, sym, ap, subst, ◌∙◌, refl, rules, arith}
+use Rattle.std.specs.Prelude.{IsSome}
+use Rattle.std.specs.FinMap.{FinMap, get}
+use Rattle.std.specs.Ordering.{nat_cmp}
+use Rattle.nfs_proto.specs.declared.answer.Answer.TheVariants.{Found}
+use Rattle.nfs_proto.specs.declared.fattr.Fattr.{Fattr}
+use Rattle.nfs_proto.specs.declared.sattr.Sattr.{Sattr}
+use Rattle.fs_rules.specs.declared.file.File.{File}
+use Rattle.fs_rules.specs.Handle.{handle}
+use Rattle.fs_rules.specs.Attributes.{with_attributes}
+use Rattle.fs_rules.specs.Edits.{changed_at}
+use Rattle.fs_rules.specs.Making.{size_alone}
+use Rattle.fs_rules.specs.Making.{existing_checks}
+use Rattle.fs_checks.proofs.FactsLemmas.{existing_looks, passed_of, failed_of, passed, failed}
+use Rattle.fs_tree.specs.Steps.{Fits, change_limits}
+use Rattle.fs_tree.specs.Makes.{found_of}
+use Rattle.fs_tree.proofs.ChangeLemmas.{meets_refused, put_back, one_file, put_there}
+use Rattle.fs_tree.proofs.MeetsLemmas.{meets_told}
+use Rattle.fs_tree.proofs.SetAttrLemmas.{set_attr_fits, set_attr_change}
+use Rattle.fs_tree.proofs.ExistingLemmas.{existing_refused, existing_found, existing_limited, existing_passes, meets_sized}
+use Rattle.fs_tree.proofs.create.set_size.Goals as goal
+
+pub returns-in-Err : goal.returns-in-Err
+returns-in-Err c start =
+    let f = c.in-Some.file.now in
+    let live : get c.args.tree.now.files c.args.number ≡ Some f = search rules in
+    meets_refused c.args.tree.now _ c.in-Err.status.0 c.refused-in-Err.result
+    (existing_refused c.args.tree.now c.args.number c.args.set.now c.args.cred.now c.args.now start f live c.in-Err.status.0
+    (failed_of (λ (f : File). existing_checks f c.args.set.now c.args.cred.now) (existing_looks c.args.set.now c.args.cred.now) f c.of_file.result c.check_existing.result c.of_file.ensures c.check_existing.ensures c.in-Err.status c.in-Err.is))
+    c.refused-in-Err.ensures.answer c.refused-in-Err.ensures.change
+
+pub returns-then-not-is_set : goal.returns-then-not-is_set
+returns-then-not-is_set c start =
+    let live : get c.args.tree.now.files c.args.number ≡ Some c.in-Some.file.now = search rules in
+    meets_told c.args.tree.now _ _ c.told.result
+    (existing_found c.args.tree.now c.args.number c.args.set.now c.args.cred.now c.args.now start c.in-Some.file.now live
+    (passed_of (λ (f : File). existing_checks f c.args.set.now c.args.cred.now) (existing_looks c.args.set.now c.args.cred.now) c.in-Some.file.now c.of_file.result c.check_existing.result c.of_file.ensures c.check_existing.ensures _ c.in_default-check_existing.is) (sym c.is_set.ensures ∙ c.if-not-is_set.true))
+    (c.told.ensures.answer ∙ c.found_at.ensures) c.told.ensures.change
+
+pub returns-in-Err-check_limits : goal.returns-in-Err-check_limits
+returns-in-Err-check_limits c start =
+    let live : get c.args.tree.now.files c.args.number ≡ Some c.in-Some.file.now = search rules in
+    meets_refused c.args.tree.now _ c.in-Err-check_limits.status.0 c.refused-in-Err-check_limits.result
+    (existing_limited c.args.tree.now c.args.number c.args.set.now c.args.cred.now c.args.now start c.in-Some.file.now live
+    (passed_of (λ (f : File). existing_checks f c.args.set.now c.args.cred.now) (existing_looks c.args.set.now c.args.cred.now) c.in-Some.file.now c.of_file.result c.check_existing.result c.of_file.ensures c.check_existing.ensures _ c.in_default-check_existing.is) c.requires (sym c.is_set.ensures ∙ c.if-not-is_set.false)
+    c.in-Err-check_limits.status.0 (failed (change_limits c.args.tree.now c.in-Some.file.now.change 0) c.check_limits.result c.in-Err-check_limits.status c.check_limits.ensures.exact c.in-Err-check_limits.is))
+    c.refused-in-Err-check_limits.ensures.answer c.refused-in-Err-check_limits.ensures.change
+
+pub put_file-attr-requires-clause-fits : goal.put_file-attr-requires-clause-fits
+put_file-attr-requires-clause-fits c =
+    let n = c.args.number in
+    let f = c.in-Some.file.now in
+    let live : get c.args.tree.now.files n ≡ Some f = search rules in
+    let fits : Fits f = search rules in
+    let same = one_file c.args.tree.now n n f c.in-Some-replace.file refl live ((c.in-Some-replace.ensures {u = tt}).before) in
+    let is : c.with_attributes-file.result ≡ with_attributes c.args.now (size_alone c.args.set.now) f =
+    c.with_attributes-file.ensures ∙ ap (λ (s : Sattr). with_attributes c.args.now s c.in-Some-replace.file) c.size_alone.ensures ∙ ap (with_attributes c.args.now (size_alone c.args.set.now)) same in
+    subst Fits (sym is) (set_attr_fits c.args.now (size_alone c.args.set.now) f fits)
+
+pub put_file-attr-requires-clause-change : goal.put_file-attr-requires-clause-change
+put_file-attr-requires-clause-change c =
+    let n = c.args.number in
+    let f = c.in-Some.file.now in
+    let live : get c.args.tree.now.files n ≡ Some f = search rules in
+    let before = one_file c.args.tree.now n n f c.in-Some-replace.file refl live ((c.in-Some-replace.ensures {u = tt}).before) in
+    let is : c.with_attributes-file.result ≡ with_attributes c.args.now (size_alone c.args.set.now) f =
+    c.with_attributes-file.ensures ∙ ap (λ (s : Sattr). with_attributes c.args.now s c.in-Some-replace.file) c.size_alone.ensures ∙ ap (with_attributes c.args.now (size_alone c.args.set.now)) before in
+    let rises : f.change < 2 ^ 64 - 1 = (c.in_default-check_limits.ensures {u = tt}).rises in
+    let same : c.with_attributes-file.result.change ≡ f.change = ap (λ (f : File). f.change) is ∙ set_attr_change c.args.now (size_alone c.args.set.now) f in
+    omega (arith, rises, same)
+
+pub put_file-attr-requires-clause-there : goal.put_file-attr-requires-clause-there
+put_file-attr-requires-clause-there c =
+    let n = c.args.number in
+    subst (λ (m : FinMap nat_cmp File). IsSome (get m n)) (sym ((c.in-Some-replace.ensures {u = tt}).some)) (subst IsSome (sym (put_there c.args.tree.now n c.placeholder.result)) refl)
+
+pub returns : goal.returns
+returns c start =
+    let t = c.args.tree.now in
+    let n = c.args.number in
+    let f = c.in-Some.file.now in
+    let g = with_attributes c.args.now (size_alone c.args.set.now) f in
+    let live : get t.files n ≡ Some f = search rules in
+    let same = one_file t n n f c.in-Some-replace.file refl live ((c.in-Some-replace.ensures {u = tt}).before) in
+    let is : c.with_attributes-file.result ≡ g =
+    c.with_attributes-file.ensures ∙ ap (λ (s : Sattr). with_attributes c.args.now s c.in-Some-replace.file) c.size_alone.ensures ∙ ap (with_attributes c.args.now (size_alone c.args.set.now)) same in
+    meets_sized t n c.args.set.now c.args.cred.now c.args.now start f live c.put_file-attr.new.tree _ c.found.result
+    (existing_passes t n c.args.set.now c.args.cred.now c.args.now start f live
+    (passed_of (λ (f : File). existing_checks f c.args.set.now c.args.cred.now) (existing_looks c.args.set.now c.args.cred.now) c.in-Some.file.now c.of_file.result c.check_existing.result c.of_file.ensures c.check_existing.ensures _ c.in_default-check_existing.is) c.requires (sym c.is_set.ensures ∙ c.if-not-is_set.false)
+    (passed (change_limits c.args.tree.now c.in-Some.file.now.change 0) c.check_limits.result _ c.check_limits.ensures.exact c.in_default-check_limits.is))
+    (put_back c.args.now t c.put_file-attr.new.tree n n c.placeholder.result g c.with_attributes-file.result c.replace.new.self refl
+    ((c.in-Some-replace.ensures {u = tt}).some) is c.put_file-attr.ensures.tree)
+    (c.found.ensures.answer
+    ∙ ap (λ (a : Fattr). Found (record { 0 = handle n c.with_attributes-file.result.generation }) a) c.put_file-attr.ensures.attr
+    ∙ ap (λ (h : File). found_of n (changed_at c.args.now h)) is)
+    c.found.ensures.change

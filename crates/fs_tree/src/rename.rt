@@ -1,0 +1,41 @@
+ghost use Rattle.std.specs.Prelude.{◌≡◌, ℕ, IfOk, OnErr};
+ghost use Rattle.nfs_proto.specs.declared.call.Call.TheVariants.{Rename};
+ghost use Rattle.fs_rules.specs.Good.{IsGood};
+ghost use Rattle.fs_rules.specs.Respond.{respond};
+ghost use Rattle.fs_tree.specs.Meets.{Meets};
+
+use crate::decision::Decision;
+use crate::moving::carry_over;
+use crate::planning::decided;
+use crate::response::{Change, Response};
+use fs_rules::{Answer, Cred, Handle, NoMemory, PlainTree, Stamp};
+use std::alloc::Global;
+
+/// RENAME: moves a file from a name of one directory to a name of another one, or of the same, over the
+/// file that has it, if there is one (RFC 1094, section 2.2.12).
+pub(crate) fn rename(
+    alloc: Global,
+    tree: &mut PlainTree,
+    from: &Handle,
+    from_name: &[u8],
+    to: &Handle,
+    to_name: &[u8],
+    cred: &Cred,
+    now: Stamp,
+) -> Result<Response, NoMemory>
+    requires { IsGood tree.old }
+    ensures meets { (start : ℕ) → IfOk result (Meets tree.old (respond tree.old (Rename from.now from_name.now to.now to_name.now) cred.now now start) tree.new) }
+    ensures err { OnErr result (tree.new ≡ tree.old) }
+{
+    match decided(tree, from, from_name, to, to_name, cred) {
+        Decision::Refused(status) => Ok(Response::refused(status)),
+        Decision::Same => Ok(Response::told(Answer::Plain)),
+        Decision::Moves(plan) => {
+            carry_over(alloc, tree, plan, from_name, to_name, now)?;
+            Ok(Response {
+                answer: Answer::Plain,
+                change: Some(Change { made: None }),
+            })
+        }
+    }
+}
