@@ -1,7 +1,5 @@
 -- How the health of a disk goes on, call by call.
-use Rattle.std.proofs.Common.{◌≡◌, ◌⊎◌, ℕ, ◌+◌, ◌-◌, ◌≤◌, ◌^◌, Bool, true, false, Option, None, Some, Result, Ok, Err, refl, sym, ap, subst, ◌∙◌, arith, inl, inr}
-use Rattle.std.specs.Prelude.{IsTrue, min}
-use Rattle.sfs_base.specs.Fault.{Rose}
+use Rattle.std.proofs.Common.{◌≡◌, ◌⊎◌, ℕ, ◌+◌, ◌≤◌, Option, None, Some, Result, Ok, Err, refl, ap, subst, ◌∙◌, arith}
 use Rattle.disk_model.specs.Health.{Health, Fell, Hands, Passed, IsLive, Lets, FailedFor, Speaks, less}
 
 less_less : (a b : ℕ) (left : Option ℕ) → less b (less a left) ≡ less (a + b) left

@@ -1,6 +1,6 @@
 -- The history of a disk in memory, and what its calls are as those of a disk.
-use Rattle.std.proofs.Common.{◌≡◌, ◌⊎◌, ℕ, ◌-◌, Bool, true, false, cond, List, [], ◌∷◌, ◌++◌, ◌<◌, ◌^◌, Result, Ok, Err, refl, sym, ap, subst, ◌∙◌, arith, inl, inr}
-use Rattle.std.specs.Prelude.{◌||◌, OnOk, OnErr, is_ok, length, slice_index, min, IsTrue}
+use Rattle.std.proofs.Common.{◌≡◌, ℕ, ◌-◌, Bool, true, false, cond, List, [], ◌∷◌, ◌++◌, ◌<◌, ◌^◌, Result, Ok, Err, refl, sym, ap, subst, ◌∙◌, arith, inl, inr}
+use Rattle.std.specs.Prelude.{◌||◌, OnOk, is_ok, length, slice_index}
 use Rattle.std.proofs.lemmas.List.{append-nil}
 use Rattle.sfs_base.specs.Fault.{Rose}
 use Rattle.disk_model.specs.declared.choice.Choice.{Choice}
@@ -9,9 +9,9 @@ use Rattle.disk_model.specs.declared.change.Change.{Change}
 use Rattle.disk_model.specs.declared.change.Change.TheVariants.{Wrote, Missed, Synced, Restarted}
 use Rattle.disk_model.specs.Calls.{IsRead, IsWrite, IsSync, IsRestart}
 use Rattle.disk_model.specs.Crash.{History, MayLeave, IsWithin, Holds, moments, touched, covers, is_pending}
-use Rattle.disk_model.specs.Health.{Fell, Hands, Passed, IsLive, Revived, next_count, FailedFor}
-use Rattle.disk_model.specs.Plan.{Plan, blank, changed, history_after, history_of, plan_tells, plan_history, plan_health, Failure, IsPlanned, IsNamed}
-use Rattle.disk_model.specs.Restart.{image_of, last_safe, IsRestarted}
+use Rattle.disk_model.specs.Health.{Fell, Hands, IsLive, Revived, next_count}
+use Rattle.disk_model.specs.Plan.{Plan, blank, changed, history_after, history_of, plan_tells, plan_history, plan_health, Failure, IsPlanned}
+use Rattle.disk_model.specs.Restart.{image_of, last_safe}
 use Rattle.disk_model.proofs.StoreLemmas.{history_more}
 
 -- a call that succeeds just where another one does

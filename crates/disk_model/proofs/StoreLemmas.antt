@@ -6,7 +6,7 @@ use Rattle.disk_model.specs.declared.choice.Choice.TheVariants.{Old, New, Fill}
 use Rattle.disk_model.specs.declared.change.Change.{Change}
 use Rattle.disk_model.specs.declared.change.Change.TheVariants.{Wrote, Missed, Synced, Restarted}
 use Rattle.disk_model.specs.declared.overwritten.Overwritten.{Overwritten}
-use Rattle.disk_model.specs.Crash.{Content, History, Holds, moments, covers, is_pending, put}
+use Rattle.disk_model.specs.Crash.{Content, History, Holds, covers, is_pending, put}
 use Rattle.disk_model.specs.Plan.{changed, history_after}
 use Rattle.disk_model.specs.Restart.{image_of}
 use Rattle.disk_model.specs.Store.{ranges_of, undone, image_by, IsKept}

@@ -1,5 +1,5 @@
 -- What a `Stop` shows.
-use Rattle.std.specs.Prelude.{ℕ, ◌+◌, ◌&&◌, Bool, not, Option}
+use Rattle.std.specs.Prelude.{ℕ, ◌+◌, ◌&&◌, not, Option}
 use Rattle.disk_model.specs.declared.stop.Stop.{Stop}
 use Rattle.disk_model.specs.Crash.{History}
 use Rattle.disk_model.specs.Health.{Health}

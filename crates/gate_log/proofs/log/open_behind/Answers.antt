@@ -1,4 +1,4 @@
-use Rattle.disk_model.proofs.HealthLemmas.{hands_first, hands_both}
+use Rattle.disk_model.proofs.HealthLemmas.{hands_both}
 use Rattle.gate_log.proofs.LogLemmas.{opens_first, opens_both}
 use Rattle.gate_log.proofs.log.open_behind.Goals as goal
 

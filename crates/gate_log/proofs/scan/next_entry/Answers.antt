@@ -1,6 +1,5 @@
-use Rattle.std.proofs.Common.{◌≡◌, ◌+◌, ℕ, List, refl, sym, subst}
+use Rattle.std.proofs.Common.{◌+◌, refl, sym, subst}
 use Rattle.disk_model.specs.Crash.{History, Holds}
-use Rattle.disk_model.specs.LogBytes.{entry_bytes}
 use Rattle.disk_model.proofs.HealthLemmas.{speaks_passed}
 use Rattle.gate_log.proofs.ScanLemmas.{entry_found, holds_seen}
 use Rattle.gate_log.proofs.scan.next_entry.Goals as goal

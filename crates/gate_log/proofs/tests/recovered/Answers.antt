@@ -1,5 +1,4 @@
-use Rattle.std.proofs.Common.{◌≡◌, ℕ, sym, subst, ◌∙◌}
-use Rattle.disk_model.specs.Calls.{IsRestart}
+use Rattle.std.proofs.Common.{ℕ, sym, subst, ◌∙◌}
 use Rattle.disk_model.specs.Crash.{History, LeavesOnly}
 use Rattle.disk_model.specs.LogBytes.{StandsFor}
 use Rattle.gate_log.specs.Append.{IsAppending}

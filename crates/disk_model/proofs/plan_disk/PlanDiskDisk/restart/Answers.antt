@@ -1,4 +1,4 @@
-use Rattle.std.proofs.Common.{arith, rules}
+use Rattle.std.proofs.Common.{arith}
 use Rattle.std.proofs.lemmas.Grind.{common_steps}
 use Rattle.disk_model.proofs.PlanLemmas.{restart_by}
 use Rattle.disk_model.proofs.plan_disk.PlanDiskDisk.restart.Goals as goal

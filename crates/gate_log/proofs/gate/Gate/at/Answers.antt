@@ -1,5 +1,5 @@
-use Rattle.std.proofs.Common.{◌≡◌, ◌+◌, ◌≤◌, ◌^◌, ℕ, List, drop, subst, sym, ap, ◌∙◌, arith, rules}
-use Rattle.disk_model.specs.Crash.{Content, Holds}
+use Rattle.std.proofs.Common.{◌+◌, drop, subst, sym, ap, ◌∙◌, arith, rules}
+use Rattle.disk_model.specs.Crash.{Holds}
 use Rattle.gate_log.proofs.ScanLemmas.{holds_drop, holds_take}
 use Rattle.gate_log.proofs.gate.Gate.at.Goals as goal
 
