@@ -1,4 +1,4 @@
--- The procedures that make files: CREATE, MKDIR and SYMLINK (RFC 1094, sections 2.2.10, 2.2.13 and 2.2.14).
+-- The procedures that make files: CREATE, MKDIR and SYMLINK (RFC 1094, sections 2.2.10, 2.2.15 and 2.2.14).
 use Rattle.std.specs.Prelude.{ℕ, ◌+◌, ◌-◌, ◌*◌, ◌/◌, ◌%◌, ◌^◌, ◌==◌, not, ◌&&◌, ◌||◌, if◌then◌else◌, List, [], ◌∷◌, length, Option, Some, None, is_some, unwrap_or}
 use Rattle.std.specs.FinMap as table
 use Rattle.rpc_msg.specs.declared.cred.Cred.{Cred}

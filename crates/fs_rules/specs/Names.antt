@@ -1,4 +1,4 @@
--- The procedures that give, take and move names: LINK, REMOVE, RMDIR and RENAME (RFC 1094, sections 2.2.10 to 2.2.12 and 2.2.15).
+-- The procedures that give, take and move names: LINK, REMOVE, RMDIR and RENAME (RFC 1094, sections 2.2.11 to 2.2.13 and 2.2.16).
 use Rattle.std.specs.Prelude.{ℕ, ◌+◌, ◌-◌, ◌==◌, nat_lt, Bool, false, not, ◌&&◌, ◌||◌, if◌then◌else◌, List, [], ◌∷◌, ◌++◌, Option, Some, None, is_some, is_none, option_and_then}
 use Rattle.std.specs.Option.{option_map_or}
 use Rattle.std.specs.List.{list_any}

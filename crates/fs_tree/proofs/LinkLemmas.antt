@@ -1,6 +1,6 @@
 -- What respond is for LINK.
 use Rattle.std.proofs.Common.{◌≡◌, ℕ, ◌+◌, ◌-◌, ◌^◌, ◌<◌, ◌≤◌, Bool, true, false, cond, eqb, ltb, List, [], ◌∷◌, length, Option, Some, None, refl, sym, ap, ◌∙◌, arith}
-use Rattle.std.specs.Prelude.{not, is_some, ◌||◌, sum_by, IfSome, IfNone}
+use Rattle.std.specs.Prelude.{not, is_some, ◌||◌, sum_by}
 use Rattle.std.specs.Option.{option_map_or}
 use Rattle.std.proofs.lemmas.Bool.{not-false, le-ltb, ltb-false}
 use Rattle.std.proofs.lemmas.List.Sums.{sum_by-cons}
@@ -35,20 +35,6 @@ use Rattle.fs_tree.specs.Makes.{used_by}
 use Rattle.fs_tree.proofs.RespondLemmas.{named_there}
 use Rattle.fs_tree.proofs.DirectoryLemmas.{named_there as row_there}
 use Rattle.fs_tree.proofs.ChangeLemmas.{arguments_fail, check_fails, limit_fails, all_pass}
-
--- ---- what an option says
-
-pub if_some : (P : ℕ → Type 0) (o : Option ℕ) → ((s : ℕ) → o ≡ Some s → P s) → IfSome o P
-if_some P (Some s) holds = holds s refl
-if_some P None holds = tt
-
-pub if_none : (P : Type 0) (o : Option ℕ) → (o ≡ None → P) → IfNone o P
-if_none P (Some s) holds = tt
-if_none P None holds = holds refl
-
-pub if_none_is : {P : Type 0} (o : Option ℕ) → o ≡ None → IfNone o P → P
-if_none_is (Some s) is holds = absurd cc
-if_none_is None is holds = holds
 
 -- ---- the limits
 
