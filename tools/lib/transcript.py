@@ -4,7 +4,7 @@ from dataclasses import dataclass
 
 from messages import (FATTR, MOUNT, NFS, PROCEDURES, STATUS, TIMES, TYPES, Malformed, Reader, hear, read_mount_result,
                       read_result, result_by_shape)
-from readable import moment, octal, quoted, told_call, told_cred, told_handle
+from readable import Unreadable, moment, octal, quoted, told_call, told_cred, told_handle
 
 AUTH = {1: "AUTH_BADCRED", 2: "AUTH_REJECTEDCRED", 3: "AUTH_BADVERF"}
 ACCEPTED = {1: "PROG_UNAVAIL", 2: "PROG_MISMATCH", 3: "PROC_UNAVAIL", 4: "GARBAGE_ARGS"}
@@ -107,10 +107,13 @@ class Arrival:
 def arrivals_of(schedule):
     """The arrivals of a schedule's text, in order."""
     found = []
-    for line in schedule.decode("latin-1").split("\n"):
+    for place, line in enumerate(schedule.decode("latin-1").split("\n"), 1):
         words = line.split(" ")
-        if words[0] == "arrive" and len(words) == 5:
-            found.append(Arrival((int(words[2]), int(words[3])), bytes.fromhex(words[4])))
+        if words[0] == "arrive":
+            try:
+                found.append(Arrival((int(words[2]), int(words[3])), bytes.fromhex(words[4])))
+            except (IndexError, ValueError):
+                raise Unreadable(place, "it is no arrival") from None
         if line == "end":
             break
     return found
@@ -130,12 +133,12 @@ WHY = {"stop": "the schedule's stop", "fault": "its disk failed", "full": "its l
 DROPPED = {"down": "the node is down", "silent": "the bytes are no call", "full": "32 arrivals wait"}
 
 
-def told_line(line, arrivals):
-    """The readable form of one line of a transcript; a line outside the grammar as a text."""
+def told_line(place, line, arrivals):
+    """The readable form of one line of a transcript; a line outside the grammar is refused by its number."""
     try:
         return told_words(line.split(" "), arrivals)
     except (KeyError, IndexError, ValueError, Malformed):
-        return "text " + quoted(line.encode("latin-1"))
+        raise Unreadable(place, f"{line[:60]!r} is no line of a transcript") from None
 
 
 def told_words(w, arrivals):
@@ -196,6 +199,6 @@ def told_listed(w):
 
 def told_transcript(data, arrivals=()):
     lines = data.decode("latin-1").split("\n")
-    last = lines.pop()
-    told = [told_line(line, arrivals) for line in lines] + ([told_line(last, arrivals)] if last else [])
-    return "".join(line + "\n" for line in told)
+    if not lines[-1]:
+        lines.pop()
+    return "".join(told_line(place, line, arrivals) + "\n" for place, line in enumerate(lines, 1))
