@@ -41,6 +41,3 @@ pub type Calls = Seq<u64>;
 
 /// The entries of a log, in order.
 pub type Entries = Seq<Bytes>;
-
-#[cfg(test)]
-mod tests;

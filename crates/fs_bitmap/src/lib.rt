@@ -18,6 +18,3 @@ pub const BITS_PER_BYTE: u32 = 8;
 
 /// A byte whose bits are all used.
 const FULL: u8 = 0xff;
-
-#[cfg(test)]
-mod tests;

@@ -15,6 +15,3 @@ pub use chain_block::{ChainBlock, read_chain, write_chain};
 pub use fs_layout::{BLOCK_BYTES, REFERENCES_PER_CHAIN, Reference};
 pub use laws::chains_have_one_value;
 pub use references::References;
-
-#[cfg(test)]
-mod tests;

@@ -22,6 +22,3 @@ pub use sizes::resize;
 pub use slots::{file_named, is_in_use, slot_of};
 pub use using::used_after_write;
 pub use writing::write_bytes;
-
-#[cfg(test)]
-mod tests;

@@ -20,6 +20,3 @@ pub use search::{find, lowest_empty};
 pub use sfs_base::{Bytes, NoMemory, Seq};
 pub use slot::{SLOT_BYTES, Slot, Slots};
 pub use slot_fault::SlotFault;
-
-#[cfg(test)]
-mod tests;

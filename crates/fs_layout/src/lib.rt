@@ -34,6 +34,3 @@ pub use reference::{NotAReference, Reference};
 pub use superblock::{Superblock, read_superblock, write_superblock};
 pub use words::{WORD_BYTES, read_words, write_words};
 pub use zeros::are_zeros;
-
-#[cfg(test)]
-mod tests;

@@ -11,6 +11,3 @@ mod tree_lines;
 mod word;
 
 pub use tree_lines::{Listing, listing};
-
-#[cfg(test)]
-mod tests;

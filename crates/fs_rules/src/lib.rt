@@ -34,6 +34,3 @@ pub use nfs_proto::{Answer, Call, Fattr, Handle, Sattr, Stamp};
 pub use plain_tree::{PlainTree, ROOT};
 pub use rpc_msg::Cred;
 pub use sfs_base::{Bytes, NoMemory};
-
-#[cfg(test)]
-mod tests;

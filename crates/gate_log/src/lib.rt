@@ -30,6 +30,3 @@ pub use layout::MAX_LOG_BYTES;
 pub use log::Log;
 pub use log_fault::LogFault;
 pub use through::write_through;
-
-#[cfg(test)]
-mod tests;

@@ -21,6 +21,3 @@ pub use mini_tx::{Actor, Message, Posted};
 pub use place::Place;
 pub use sfs_base::NoMemory;
 pub use sim_link::SimLink;
-
-#[cfg(test)]
-mod tests;

@@ -18,6 +18,3 @@ pub use lock_fault::LockFault;
 pub use locks::Locks;
 pub use mini_tx::Range;
 pub use overlap::overlaps;
-
-#[cfg(test)]
-mod tests;

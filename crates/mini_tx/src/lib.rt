@@ -65,6 +65,3 @@ pub use write_at::{WriteAt, Writes};
 
 /// Numbers of memory nodes.
 pub type Numbers = sfs_base::Seq<u32>;
-
-#[cfg(test)]
-mod tests;

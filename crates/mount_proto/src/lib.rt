@@ -10,6 +10,3 @@ mod mounting;
 pub use laws::paths_are_exact;
 pub use mounting::{LAST_PROCEDURE, MAX_PATH_BYTES, answer};
 pub use sfs_xdr::{ArgFault, Bytes};
-
-#[cfg(test)]
-mod tests;

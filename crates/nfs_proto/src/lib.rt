@@ -39,6 +39,3 @@ pub use sattr::Sattr;
 pub use sfs_base::{Bytes, NoMemory};
 pub use sfs_xdr::ArgFault;
 pub use stamp::Stamp;
-
-#[cfg(test)]
-mod tests;

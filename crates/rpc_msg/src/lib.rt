@@ -31,6 +31,3 @@ pub use program::{MOUNT, NFS, Program};
 pub use reply::{write_garbage, write_reply};
 pub use rpc_call::RpcCall;
 pub use sfs_xdr::{Bytes, NoMemory};
-
-#[cfg(test)]
-mod tests;

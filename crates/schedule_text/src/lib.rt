@@ -49,6 +49,3 @@ pub use writing::{append_line, append_out, write_line, write_out};
 
 /// The numbers of the calls that fail, in any order; the first call has the number 1.
 pub type Calls = Seq<u64>;
-
-#[cfg(test)]
-mod tests;

@@ -19,6 +19,3 @@ pub use table::Table;
 
 /// Bytes, as contracts see them: a list of numbers below 256.
 pub type Bytes = Seq<u8>;
-
-#[cfg(test)]
-mod tests;

@@ -36,6 +36,3 @@ pub use xdr_fault::XdrFault;
 
 /// Each item takes a multiple of this many bytes (RFC 1014, section 2).
 pub const UNIT: usize = 4;
-
-#[cfg(test)]
-mod tests;

@@ -1,5 +1,5 @@
-use super::*;
-use mini_tx::TxId;
+use link_model::{Actor, Link, LocalLink, Posted, SimLink};
+use mini_tx::{Message, TxId};
 use std::test::*;
 
 // A message about a minitransaction of node 0 with this number.

@@ -1,8 +1,7 @@
-use super::*;
+use fs_content::{file_named, list_names, put_name, read_part, slot_of, take_name, write_bytes};
 use fs_rules::{Answer, Blocks, Bytes, Entry, NoMemory, Slots};
 use nfs_proto::{DirEntries, DirEntry};
 use std::alloc::Global;
-use std::process::Abort;
 use std::test::*;
 
 #[test]

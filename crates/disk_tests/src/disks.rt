@@ -1,6 +1,6 @@
 ghost use Rattle.std.specs.Prelude.{◌+◌, ◌^◌, ◌<◌};
 
-use super::*;
+use disk_model::{Bytes, Calls, Change, Choice, Disk, Failed, NoMemory, PlanDisk, PlanShelf, Shelf, Stop};
 use std::test::*;
 
 fn disk_of(rt: &HostRuntime, failing: &[u64]) -> Result<PlanDisk, Fail> {
@@ -110,7 +110,7 @@ fn a_shelf_refuses_what_it_has_not(rt: HostRuntime) -> Result<(), Fail> {
 }
 
 #[test]
-#[tactic(auto, unfolding(crate::specs::Plan::history_after))]
+#[tactic(auto, unfolding(disk_model::specs::Plan::history_after))]
 fn a_shelf_gives_the_disks_that_lie_there(rt: HostRuntime) -> Result<(), Fail> {
     let mut shelf = PlanShelf::new(rt.alloc(), Calls::new(rt.alloc()));
     match shelf.push(PlanDisk::new(rt.alloc(), Calls::new(rt.alloc()))) {

@@ -1,9 +1,12 @@
 ghost use Rattle.std.specs.Prelude.{◌≡◌, ◌∷◌, [], IfOk};
 ghost use Rattle.mini_tx.specs.declared.item.Item.TheVariants.{Compare as compare_item, Read as read_item, Write as write_item};
 
-use super::*;
+use mini_tx::{
+    Bytes, CutId, Entry, EntryFault, Item, Items, Mini, MiniFault, NoMemory, Numbers, Range, Ranges, TxId, Vote, WriteAt,
+    perform, read_entry, write_entry,
+};
 use sfs_base::Seq;
-use std::alloc::{AllocError, Global};
+use std::alloc::Global;
 use std::test::*;
 
 #[test]
@@ -45,20 +48,6 @@ const ID: TxId = TxId {
     boot: 2,
     seq: 3,
 };
-
-#[test]
-fn an_entry_is_spelled_and_read(rt: HostRuntime) -> Result<(), Fail> {
-    let entry = Entry::Forgotten { id: ID };
-    let bytes = [
-        0, 0, 0, 5, 0, 0, 0, 1, 0, 0, 0, 0, 0, 0, 0, 2, 0, 0, 0, 0, 0, 0, 0, 3,
-    ];
-    assert_eq!(rt;
-        write_entry(rt.alloc(), &entry)?.as_slice(),
-        bytes.as_slice()
-    );
-    assert_eq!(rt; read_entry(rt.alloc(), &bytes)?, entry);
-    Ok(())
-}
 
 #[test]
 fn a_prepared_entry_is_spelled_and_read(rt: HostRuntime) -> Result<(), Fail> {
@@ -109,95 +98,6 @@ fn read(at: u32, length: u32) -> Item
         at,
         length,
     }
-}
-
-fn write(alloc: Global, at: u32, length: usize) -> Result<Item, AllocError> {
-    Ok(Item::Write {
-        memory: 0,
-        at,
-        bytes: Bytes::from(Vec::from_elem(alloc, 7, length)?),
-    })
-}
-
-// How two items are refused.
-fn both(alloc: Global, first: Item, second: Item) -> Result<Option<MiniFault>, NoMemory> {
-    let mut items = one(alloc, first)?;
-    items.push(second)?;
-    Ok(Mini::new(alloc, items, 2, 2_000_000).err())
-}
-
-// How so many read items of one byte are refused.
-fn refusal_of_reads(alloc: Global, count: usize) -> Result<Option<MiniFault>, NoMemory> {
-    let mut items = Items::new(alloc);
-    for _ in 0..count {
-        items.push(read(0, 1))?;
-    }
-    Ok(Mini::new(alloc, items, 2, 2_000_000).err())
-}
-
-#[test]
-fn a_minitransaction_has_1_to_512_items(rt: HostRuntime) -> Result<(), Fail> {
-    let alloc = rt.alloc();
-    assert_eq!(rt; refusal_of_reads(alloc, 0)?, Some(MiniFault::Empty));
-    assert_eq!(rt; refusal_of_reads(alloc, 1)?, None);
-    assert_eq!(rt; refusal_of_reads(alloc, 512)?, None);
-    assert_eq!(rt;
-        refusal_of_reads(alloc, 513)?,
-        Some(MiniFault::TooManyItems)
-    );
-    Ok(())
-}
-
-#[test]
-fn writes_may_touch_and_not_overlap(rt: HostRuntime) -> Result<(), Fail> {
-    let alloc = rt.alloc();
-    assert_eq!(rt;
-        both(alloc, write(alloc, 4, 4)?, write(alloc, 0, 4)?)?,
-        None
-    );
-    assert_eq!(rt;
-        both(alloc, write(alloc, 4, 4)?, write(alloc, 8, 4)?)?,
-        None
-    );
-    let second = Some(MiniFault::Overlap { item: 1 });
-    assert_eq!(rt;
-        both(alloc, write(alloc, 4, 4)?, write(alloc, 7, 4)?)?,
-        second
-    );
-    assert_eq!(rt;
-        both(alloc, write(alloc, 4, 4)?, write(alloc, 1, 4)?)?,
-        second
-    );
-    assert_eq!(rt; both(alloc, write(alloc, 4, 4)?, read(4, 4))?, None);
-    let compare = Item::Compare {
-        memory: 0,
-        at: 4,
-        bytes: bytes(alloc, &[7])?,
-    };
-    assert_eq!(rt; both(alloc, compare, write(alloc, 4, 4)?)?, None);
-    Ok(())
-}
-
-#[test]
-fn participants_ascend_and_items_stay(rt: HostRuntime) -> Result<(), Fail> {
-    let alloc = rt.alloc();
-    let mut items = Items::new(alloc);
-    for memory in [5, 0, 5, 2] {
-        items.push(Item::Read {
-            memory,
-            at: 0,
-            length: 1,
-        })?;
-    }
-    let given = items.clone()?;
-    match Mini::new(alloc, items, 8, 1) {
-        Ok(mini) => {
-            assert_eq!(rt; mini.participants(), [0, 2, 5].as_slice());
-            assert_eq!(rt; *mini.items(), given);
-        }
-        Err(fault) => assert!(rt; false, "{fault}"),
-    }
-    Ok(())
 }
 
 // Compares the second byte of memory node 1 with `compared`, reads two bytes of memory node 0, and writes 9

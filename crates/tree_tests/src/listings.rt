@@ -1,6 +1,6 @@
-use super::*;
+use fs_listing::{Listing, listing};
 use fs_rules::{
-    Blocks, Content, Entry, File, Files, Geometry, Kept, PlainTree, ROOT, Slots, Stamp,
+    Blocks, Content, Entry, File, Files, Geometry, PlainTree, ROOT, Slots, Stamp,
 };
 use sfs_base::{Bytes, NoMemory, Table};
 use std::alloc::Global;
@@ -79,18 +79,6 @@ fn text_of(alloc: Global, lines: &Listing) -> Result<Vec<u8>, NoMemory> {
         text.push(b'\n')?;
     }
     Ok(text)
-}
-
-#[test]
-fn a_tree_without_files_has_no_line(rt: HostRuntime) -> Result<(), Fail> {
-    let mut tree = empty_tree(rt.alloc());
-    let kept = Kept {
-        generation: 4,
-        change: 9,
-    };
-    tree.freed.insert(5, kept)?;
-    assert!(rt; listing(rt.alloc(), &tree)?.is_empty());
-    Ok(())
 }
 
 #[test]

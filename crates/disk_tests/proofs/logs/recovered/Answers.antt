@@ -3,7 +3,7 @@ use Rattle.disk_model.specs.Crash.{History, LeavesOnly}
 use Rattle.disk_model.specs.LogBytes.{StandsFor}
 use Rattle.gate_log.specs.Append.{IsAppending}
 use Rattle.gate_log.proofs.LawLemmas.{recovered_is}
-use Rattle.gate_log.proofs.tests.recovered.Goals as goal
+use Rattle.disk_tests.proofs.logs.recovered.Goals as goal
 
 pub returns-in-Ok : goal.returns-in-Ok
 returns-in-Ok g c entries based log =

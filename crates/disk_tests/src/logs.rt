@@ -3,8 +3,8 @@ ghost use Rattle.disk_model.specs.Health.{FailedFor};
 ghost use Rattle.disk_model.specs.Stop.{disk_below, left_of};
 ghost use Rattle.gate_log.specs.Log.{base_of, disk_of, has_failed, IsLog};
 
-use super::*;
 use disk_model::{Bytes, Calls, Change, Choice, Disk, Entries, PlanDisk, Stop};
+use gate_log::{BootCell, Log, LogFault};
 use std::alloc::Global;
 use std::test::*;
 

@@ -1,4 +1,4 @@
-use super::*;
+use fs_chain::{BLOCK_BYTES, ChainBlock, REFERENCES_PER_CHAIN, Reference, References, read_chain, write_chain};
 use std::test::*;
 
 const FIRST_BLOCK: Option<Reference> = Some(Reference {
@@ -67,41 +67,4 @@ fn references_are_shown_as_a_list(rt: HostRuntime) {
     let shown = format!(in rt.alloc(); "{:?}", sample().references).expect(&rt, "memory");
     let front = "[Some(Reference { memory: 0, block: 0 }), None, None";
     assert!(rt; shown.as_str().starts_with(front));
-}
-
-#[test]
-fn a_block_whose_next_has_no_word_cannot_be_written(rt: HostRuntime) {
-    let mut block = sample();
-    block.next = Some(Reference {
-        memory: 0,
-        block: u32::MAX,
-    });
-    assert!(rt; !block.is_chain());
-}
-
-#[test]
-fn a_block_of_zeros_refers_to_nothing(rt: HostRuntime) {
-    let nothing = ChainBlock {
-        next: None,
-        file: 0,
-        index: 0,
-        references: References::new(),
-    };
-    assert_eq!(rt; read_chain(&[0; BLOCK_BYTES]), Some(nothing));
-}
-
-#[test]
-fn a_block_has_4096_bytes(rt: HostRuntime) {
-    assert_eq!(rt; read_chain(&sample_bytes()[1..]), None);
-    assert_eq!(rt; read_chain(&[0; BLOCK_BYTES + 1]), None);
-    assert_eq!(rt; read_chain(&[]), None);
-}
-
-#[test]
-fn a_memory_node_without_a_block_is_refused(rt: HostRuntime) {
-    for at in [3, 16, 19, 2_051, 4_088, 4_091] {
-        let mut bytes = [0; BLOCK_BYTES];
-        bytes[at] = 1;
-        assert_eq!(rt; read_chain(&bytes), None, "at {at}");
-    }
 }
