@@ -4,7 +4,7 @@ from html import escape
 
 from messages import Malformed, hear
 from readable import told_call
-from transcript import Arrival, arrivals_of, told_reply
+from transcript import arrivals_of, told_reply
 
 LEFT, TOP, COLUMN, ROW, MARGIN = 330, 70, 150, 26, 40
 COLOURS = {"prepare": "#1f5fbf", "vote ok": "#1a7f37", "vote": "#c2410c", "decide": "#7c3aed", "done": "#57606a",
@@ -112,7 +112,11 @@ def owner(run, w, now):
         if now in message.deliveries:
             return message.receiver
     text = run.events[now]
-    return "n" + text.split(" at n")[1].split(":")[0] if " at n" in text else "n" + text.split(" ")[1] if text.startswith("giveup") and text != "giveup manager" else "mgr"
+    if " at n" in text:
+        return "n" + text.split(" at n")[1].split(":")[0]
+    if text.startswith("giveup") and text != "giveup manager":
+        return "n" + text.split(" ")[1]
+    return "mgr"
 
 
 def answer_text(w, arrivals):

@@ -1,8 +1,7 @@
 """Transcripts as people read them: docs/USING.md, "Readable transcripts"."""
-import re
 from dataclasses import dataclass
 
-from messages import (FATTR, MOUNT, NFS, PROCEDURES, STATUS, TIMES, TYPES, Malformed, Reader, hear, read_mount_result,
+from messages import (FATTR, MOUNT, PROCEDURES, STATUS, TIMES, TYPES, Malformed, Reader, hear, read_mount_result,
                       read_result, result_by_shape)
 from readable import Unreadable, moment, octal, quoted, told_call, told_cred, told_handle
 

@@ -5,7 +5,7 @@ It knows the rules and nothing of the program: the expected transcripts under ca
 import copy
 from dataclasses import dataclass, field
 
-from messages import NFS, UNSET, Call, fattr_words, handle, handle_parts, hear, text, words
+from messages import NFS, fattr_words, handle, handle_parts, hear, text, words
 
 OK, PERM, NOENT, IO, NXIO, ACCES, EXIST, NOTDIR, ISDIR = 0, 1, 2, 5, 6, 13, 17, 20, 21
 FBIG, NOSPC, NAMETOOLONG, NOTEMPTY, STALE = 27, 28, 63, 66, 70
@@ -153,7 +153,7 @@ class Tree:
         for f in self.files.values():
             f.blocks, f.slots = dict(f.blocks), list(f.slots)
         self.made, self.touched = None, {}
-        self.call, self.cred, self.now, self.start, self.before = call, call.cred, now, start, before[0]
+        self.call, self.cred, self.now, self.start = call, call.cred, now, start
         try:
             body = getattr(self, call.name)(**{name.replace("from", "source"): value for name, value in call.args.items()})
             self.finish(before[0])
@@ -162,10 +162,6 @@ class Tree:
             self.files, self.kept = before
             self.made = None
             return words(refused.status)
-
-    def changed(self, before_files):
-        """Whether the call changed the tree."""
-        return bool(self.touched)
 
     def touch(self, number):
         """The call changes this file: its change number rises once, and its ctime is the moment."""

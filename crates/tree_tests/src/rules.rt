@@ -59,7 +59,7 @@ fn a_handle_spells_mark_number_and_generation(rt: HostRuntime) {
 #[test]
 fn content_tells_its_kind_and_its_blocks(rt: HostRuntime) -> Result<(), Fail> {
     let content = Content::Regular(blocks_at(rt.alloc(), &[0, 7, 510])?);
-    assert_eq!(rt; (content.kind(), content.type_bits(), content.used()), (1, 0o100000, 6));
+    assert_eq!(rt; (content.kind(), content.type_bits(), content.used()), (1, 0o100000, 5));
     let link = Content::Link(blocks_at(rt.alloc(), &[0])?);
     assert_eq!(rt; (link.kind(), link.type_bits(), link.used()), (5, 0o120000, 2));
     Ok(())
@@ -130,7 +130,7 @@ fn the_first_class_of_a_caller_decides(rt: HostRuntime) -> Result<(), Fail> {
     let owner = caller(alloc, 7, 1, &[])?;
     let further = caller(alloc, 9, 1, &[3, 8])?;
     let attributes = attributes_of(1, 0o057);
-    assert!(rt; !may(&attributes, &owner, READ));
+    assert!(rt; !may(&attributes, &owner, SEARCH));
     assert!(rt; may(&attributes, &further, READ));
     assert!(rt; is_of_group(&further, 8));
     Ok(())

@@ -44,7 +44,7 @@ fn a_message_is_refused_or_passed_over(rt: HostRuntime) -> Result<(), Fail> {
         _ => assert!(rt; false, "there is one version of RPC"),
     }
     let reply = message(&rt, &[9, 1, 2, 100_003, 2, 0, 0, 0, 0, 0])?;
-    assert!(rt; read_call(rt.alloc(), &reply)? == Heard::Silent);
+    assert!(rt; matches!(read_call(rt.alloc(), &reply)?, Heard::Silent));
     Ok(())
 }
 
