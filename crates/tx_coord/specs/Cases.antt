@@ -8,21 +8,12 @@ use Rattle.mini_tx.specs.declared.tx_id.TxId.{TxId}
 use Rattle.mini_tx.specs.declared.vote.Vote.TheVariants as vote
 use Rattle.tx_coord.specs.declared.finishing.Finishing.{Finishing}
 use Rattle.tx_coord.specs.declared.outcome.Outcome.TheVariants.{Committed, Refused}
+use Rattle.tx_coord.specs.Laws.{Delivery, after_hearing}
 use Rattle.tx_coord.specs.State.{Free, Ended, State, started}
 use Rattle.tx_coord.specs.Rules.{Step, begun, decide, forget, given_up, heard, on_done, prepare, resent, cleared, finishing_of}
 
--- what comes from a memory node
-pub record Delivery : Type 0 where
-  pub from : ℕ
-  pub message : Message
-
 abbrev pub comes : ℕ → Message → Delivery
 comes m x = record { from = m; message = x }
-
--- the state when all of these were heard, oldest first
-abbrev pub after_hearing : State → List Delivery → State
-after_hearing c [] = c
-after_hearing c (d ∷ deliveries) = after_hearing (heard c d.from d.message).now deliveries
 
 -- it reads at memory node 2, then at 0, then at 2 again, and compares at 0
 abbrev pub items : List Item

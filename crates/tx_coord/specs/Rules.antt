@@ -14,9 +14,11 @@ use Rattle.tx_coord.specs.declared.outcome.Outcome.{Outcome}
 use Rattle.tx_coord.specs.declared.outcome.Outcome.TheVariants.{Committed, Refused}
 use Rattle.tx_coord.specs.declared.outgoing.Outgoing.{Outgoing}
 use Rattle.tx_coord.specs.declared.finishing.Finishing.{Finishing}
-use Rattle.tx_coord.specs.declared.running.Grant.{Grant}
+use Rattle.tx_coord.specs.declared.progress.Progress.{Progress}
+use Rattle.tx_coord.specs.declared.progress.Progress.TheVariants.{Waits, Ends}
 use Rattle.tx_coord.specs.declared.running.Running.{Running}
 use Rattle.tx_coord.specs.State.{Phase, Free, Runs, Ended, State}
+use Rattle.tx_coord.specs.Votes.{Granted}
 
 -- what a call makes
 pub record Step : Type 0 where
@@ -78,36 +80,47 @@ read_lengths (p ∷ items) = length_before p.item (read_lengths items)
 -- as many reads as lengths, and each of its length
 abbrev pub have_lengths : List ℕ → List (List ℕ) → Bool
 have_lengths [] [] = true
+have_lengths [] (bytes ∷ reads) = false
+have_lengths (n ∷ lengths) [] = false
 have_lengths (n ∷ lengths) (bytes ∷ reads) = (length bytes == n) && have_lengths lengths reads
-have_lengths _ _ = false
+
+-- a compare item of this place
+abbrev pub compares_at : ℕ → PlacedItem → Bool
+compares_at place p = (p.place == place) && is_compare p.item
 
 -- a Granted vote has the bytes of each read item of the participant, and a Mismatch names the place of a compare item of
 -- its; the others always fit
 abbrev pub fits : List PlacedItem → Vote → Bool
 fits items (vote.Granted reads) = have_lengths (read_lengths items) reads
-fits items (vote.Mismatch place kept) = list_any (λ (p : PlacedItem). (p.place == place) && is_compare p.item) items
+fits items (vote.Mismatch place kept) = list_any (compares_at place) items
 fits items (vote.Locked holder) = true
 fits items (vote.Forced floor) = true
 fits items (vote.Held cut) = true
 
 -- ---- the reads of a committed minitransaction
 
--- the first read that is left of a memory node
-abbrev pub next_read : ℕ → List Grant → List ℕ
-next_read m [] = []
-next_read m (g ∷ grants) = if g.memory == m then first_of g.reads else next_read m grants
+abbrev pub first_read : Granted → List ℕ
+first_read g = go g.reads
   where
-    first_of : List (List ℕ) → List ℕ
-    first_of [] = []
-    first_of (bytes ∷ reads) = bytes
+    go : List (List ℕ) → List ℕ
+    go [] = []
+    go (bytes ∷ reads) = bytes
+
+abbrev pub without_first : Granted → Granted
+without_first g = record g { reads = drop 1 g.reads }
+
+-- the first read that is left of a memory node
+abbrev pub next_read : ℕ → List Granted → List ℕ
+next_read m [] = []
+next_read m (g ∷ grants) = if g.memory == m then first_read g else next_read m grants
 
 -- and what is left without it
-abbrev pub less_read : ℕ → List Grant → List Grant
+abbrev pub less_read : ℕ → List Granted → List Granted
 less_read m [] = []
-less_read m (g ∷ grants) = if g.memory == m then record g { reads = drop 1 g.reads } ∷ grants else g ∷ less_read m grants
+less_read m (g ∷ grants) = if g.memory == m then without_first g ∷ grants else g ∷ less_read m grants
 
 -- the bytes of the read items, in the order of the items: each takes the next read of its memory node's vote
-abbrev pub gathered : List Grant → List Item → List (List ℕ)
+abbrev pub gathered : List Granted → List Item → List (List ℕ)
 gathered grants [] = []
 gathered grants (Compare memory at bytes ∷ items) = gathered grants items
 gathered grants (Read memory at n ∷ items) = next_read memory grants ∷ gathered (less_read memory grants) items
@@ -131,8 +144,8 @@ begun c items =
 
 -- ---- votes
 
-abbrev pub has_granted : List Grant → ℕ → Bool
-has_granted grants m = list_any (λ (g : Grant). g.memory == m) grants
+abbrev pub has_granted : List Granted → ℕ → Bool
+has_granted grants m = list_any (λ (g : Granted). g.memory == m) grants
 
 -- those whose vote is missing
 abbrev pub missing : Running → List ℕ
@@ -142,8 +155,32 @@ missing r = filter (λ m. not (has_granted r.grants m)) (participants_of r.mini)
 abbrev pub counts : Running → ℕ → TxId → Vote → Bool
 counts r m id v = is_same r.id id && (is_in m (missing r) && fits (placed_for r.mini m) v)
 
+abbrev pub with_grant : Running → ℕ → List (List ℕ) → Running
+with_grant r m reads = record r { grants = r.grants ++ record { memory = m; reads = reads } ∷ [] }
+
+abbrev pub ended_by : Running → Bool → Outcome → Progress
+ended_by r commit outcome = Ends (record { id = r.id; mini = r.mini; commit = commit; outcome = outcome })
+
+-- with no vote missing it is committed
+abbrev pub granted : Running → Progress
+granted r = if length (missing r) == 0 then ended_by r true (Committed (gathered r.grants r.mini)) else Waits r
+
+-- what a vote that counts makes of what runs: the first that is not Granted is the outcome
+abbrev pub counted : Running → ℕ → Vote → Progress
+counted r m (vote.Granted reads) = granted (with_grant r m reads)
+counted r m (vote.Mismatch place kept) = ended_by r false (Refused m (vote.Mismatch place kept))
+counted r m (vote.Locked holder) = ended_by r false (Refused m (vote.Locked holder))
+counted r m (vote.Forced floor) = ended_by r false (Refused m (vote.Forced floor))
+counted r m (vote.Held cut) = ended_by r false (Refused m (vote.Held cut))
+
+-- ---- decisions
+
 abbrev pub decide : TxId → Bool → ℕ → Outgoing
 decide id commit m = record { memory = m; message = message.Decide id commit }
+
+-- where there are several participants, all are told
+abbrev pub decisions : TxId → Bool → List ℕ → List Outgoing
+decisions id commit participants = if has_several participants then map (decide id commit) participants else []
 
 -- the last so many
 abbrev pub newest : {A : Type 0} → ℕ → List A → List A
@@ -153,34 +190,22 @@ newest n xs = drop (length xs - n) xs
 abbrev pub finishing_of : TxId → Bool → List ℕ → Finishing
 finishing_of id commit participants = record { id = id; commit = commit; participants = participants; waits = participants }
 
--- what runs has ended: with several participants all are told, and it is finishing, of which the newest 32 are kept
-abbrev pub ended : State → Running → Bool → Outcome → Step
-ended c r commit outcome =
-    if has_several (participants_of r.mini)
-    then record {
-      now = record c { phase = Ended outcome; finishing = newest 32 (c.finishing ++ finishing_of r.id commit (participants_of r.mini) ∷ []) };
-      posts = map (decide r.id commit) (participants_of r.mini);
+-- and where there are several, it is finishing, of which the newest 32 are kept
+abbrev pub with_decided : TxId → Bool → List ℕ → List Finishing → List Finishing
+with_decided id commit participants finishing =
+    if has_several participants then newest 32 (finishing ++ finishing_of id commit participants ∷ []) else finishing
+
+abbrev pub after_vote : State → Progress → Step
+after_vote c (Waits r) = quiet (record c { phase = Runs r })
+after_vote c (Ends e) =
+    record {
+      now = record c { phase = Ended e.outcome; finishing = with_decided e.id e.commit (participants_of e.mini) c.finishing };
+      posts = decisions e.id e.commit (participants_of e.mini);
     }
-    else quiet (record c { phase = Ended outcome })
-
--- with no vote missing it is committed
-abbrev pub granted : State → Running → Step
-granted c r = if length (missing r) == 0 then ended c r true (Committed (gathered r.grants r.mini)) else quiet (record c { phase = Runs r })
-
-abbrev pub with_grant : Running → ℕ → List (List ℕ) → Running
-with_grant r m reads = record r { grants = r.grants ++ record { memory = m; reads = reads } ∷ [] }
-
--- a vote that counts: the first that is not Granted is the outcome
-abbrev pub counted : State → Running → ℕ → Vote → Step
-counted c r m (vote.Granted reads) = granted c (with_grant r m reads)
-counted c r m (vote.Mismatch place kept) = ended c r false (Refused m (vote.Mismatch place kept))
-counted c r m (vote.Locked holder) = ended c r false (Refused m (vote.Locked holder))
-counted c r m (vote.Forced floor) = ended c r false (Refused m (vote.Forced floor))
-counted c r m (vote.Held cut) = ended c r false (Refused m (vote.Held cut))
 
 abbrev pub on_vote : State → ℕ → TxId → Vote → Phase → Step
 on_vote c m id v Free = quiet c
-on_vote c m id v (Runs r) = if counts r m id v then counted c r m v else quiet c
+on_vote c m id v (Runs r) = if counts r m id v then after_vote c (counted r m v) else quiet c
 on_vote c m id v (Ended outcome) = quiet c
 
 -- ---- done
@@ -193,8 +218,11 @@ noted m id f = if is_same f.id id then record f { waits = filter (λ n. not (n =
 abbrev pub is_through : Finishing → Bool
 is_through f = length f.waits == 0
 
+abbrev pub forget_at : TxId → ℕ → Outgoing
+forget_at id m = record { memory = m; message = message.Forget id }
+
 abbrev pub forget : Finishing → List Outgoing
-forget f = map (λ m. record { memory = m; message = message.Forget f.id }) f.participants
+forget f = map (forget_at f.id) f.participants
 
 -- what all are through with is forgotten everywhere, and no longer finishing
 abbrev pub on_done : State → ℕ → TxId → Step

@@ -1,5 +1,5 @@
 -- What a coordinator of minitransactions has.
-use Rattle.std.specs.Prelude.{ℕ, List, []}
+use Rattle.std.specs.Prelude.{ℕ, Bool, List, [], Option, Some, None}
 use Rattle.tx_coord.specs.declared.finishing.Finishing.{Finishing}
 use Rattle.tx_coord.specs.declared.outcome.Outcome.{Outcome}
 use Rattle.tx_coord.specs.declared.running.Running.{Running}
@@ -30,3 +30,15 @@ abbrev pub shown : Phase → TxState
 shown Free = state.Idle
 shown (Runs r) = state.Running r.id
 shown (Ended outcome) = state.Done outcome
+
+-- what it is at, by what runs and what it tells
+abbrev pub phase_of : Option Running → TxState → Phase
+phase_of (Some r) told = Runs r
+phase_of None state.Idle = Free
+phase_of None (state.Running id) = Free
+phase_of None (state.Done outcome) = Ended outcome
+
+-- a coordinator that runs, and whether memory ran out in a call: then it answers no further one
+pub record Machine : Type 0 where
+  pub state : State
+  pub is_spent : Bool

@@ -1,5 +1,11 @@
-//! What the rules of a coordinator come to in worked cases.
+//! That the votes decide, and what the rules of a coordinator come to in worked cases.
 ghost use Rattle.tx_coord.specs.Cases.{VotesAreCounted, DecisionsAreFinished, OldestGoes};
+ghost use Rattle.tx_coord.specs.Laws.{CommittedWhereAllGranted};
+
+/// What runs is committed exactly where the first vote of each participant that counts is Granted.
+pub fn committed_where_all_granted()
+    ensures { CommittedWhereAllGranted }
+{}
 
 /// The first fitting vote of each participant counts, and the reads come in the order of the items.
 pub fn votes_are_counted()
