@@ -1,20 +1,19 @@
-ghost use Rattle.std.specs.Prelude.{◌≡◌, ℕ, ◌-◌, ◌^◌, ◌<◌, IfOk, OnErr};
+ghost use Rattle.std.specs.Prelude.{◌≡◌, ℕ, ◌-◌, ◌<◌, IfOk, OnErr};
 ghost use Rattle.std.specs.FinMap as map;
 ghost use Rattle.nfs_proto.specs.declared.call.Call.TheVariants.{Create};
 ghost use Rattle.fs_rules.specs.Good.{IsGood};
 ghost use Rattle.fs_rules.specs.Respond.{respond, IsPick};
-ghost use Rattle.fs_tree.specs.Makes.{existing_of};
+ghost use Rattle.fs_tree.specs.Creating.{existing_of};
 ghost use Rattle.fs_tree.specs.Meets.{Meets};
 ghost use Rattle.fs_tree.specs.NewFiles.{regular_of};
 
-use crate::change::{check_limits, placeholder, put_file};
-use crate::directory::directory_of;
-use crate::live::file_at;
-use crate::lookup::{found_at, number_named};
+use crate::change::put_file;
+use crate::lookup::found_at;
 use crate::new_file::{NewFile, make_new};
 use crate::response::{Change, Response};
-use crate::set_attr::with_attributes;
 use fs_checks::{Facts, Status, check_new, chosen, is_dots, is_set, size_alone};
+use fs_decisions::{check_limits, directory_of, file_at, number_named};
+use fs_edits::{placeholder, with_attributes};
 use fs_rules::{Blocks, Content, Cred, Handle, NoMemory, PlainTree, Sattr, Stamp, number_at};
 use std::alloc::Global;
 

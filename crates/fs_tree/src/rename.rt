@@ -4,10 +4,9 @@ ghost use Rattle.fs_rules.specs.Good.{IsGood};
 ghost use Rattle.fs_rules.specs.Respond.{respond};
 ghost use Rattle.fs_tree.specs.Meets.{Meets};
 
-use crate::decision::Decision;
-use crate::moving::carry_over;
-use crate::planning::decided;
 use crate::response::{Change, Response};
+use fs_decisions::{Decision, decided};
+use fs_edits::carry_over;
 use fs_rules::{Answer, Cred, Handle, NoMemory, PlainTree, Stamp};
 use std::alloc::Global;
 

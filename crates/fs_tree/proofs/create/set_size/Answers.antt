@@ -12,11 +12,13 @@ use Rattle.fs_rules.specs.Edits.{changed_at}
 use Rattle.fs_rules.specs.Making.{size_alone}
 use Rattle.fs_rules.specs.Making.{existing_checks}
 use Rattle.fs_checks.proofs.FactsLemmas.{existing_looks, passed_of, failed_of, passed, failed}
-use Rattle.fs_tree.specs.Steps.{Fits, change_limits}
-use Rattle.fs_tree.specs.Makes.{found_of}
-use Rattle.fs_tree.proofs.ChangeLemmas.{meets_refused, put_back, one_file, put_there}
+use Rattle.fs_decisions.specs.Steps.{Fits}
+use Rattle.fs_decisions.specs.Limits.{change_limits}
+use Rattle.fs_tree.specs.Creating.{found_of}
+use Rattle.fs_tree.proofs.ChangedLemmas.{meets_refused}
+use Rattle.fs_edits.proofs.PutLemmas.{put_back, one_file, put_there}
 use Rattle.fs_tree.proofs.MeetsLemmas.{meets_told}
-use Rattle.fs_tree.proofs.SetAttrLemmas.{set_attr_fits, set_attr_change}
+use Rattle.fs_decisions.proofs.SetAttrLemmas.{set_attr_fits, set_attr_change}
 use Rattle.fs_tree.proofs.ExistingLemmas.{existing_refused, existing_found, existing_limited, existing_passes, meets_sized}
 use Rattle.fs_tree.proofs.create.set_size.Goals as goal
 

@@ -3,8 +3,8 @@ use Rattle.nfs_proto.specs.declared.call.Call.TheVariants.{Link}
 use Rattle.fs_rules.specs.Handle.{number_in}
 use Rattle.fs_rules.specs.Edits.{Changed, edited}
 use Rattle.fs_rules.specs.Making.{with_name, linked}
-use Rattle.fs_tree.specs.Linking.{CanGive}
-use Rattle.fs_tree.proofs.TakeLemmas.{meets_two}
+use Rattle.fs_edits.specs.Giving.{CanGive}
+use Rattle.fs_tree.proofs.TakenLemmas.{meets_two}
 use Rattle.fs_tree.proofs.link.link.Goals as goal
 
 pub give_one-requires : goal.give_one-requires

@@ -3,9 +3,9 @@ use Rattle.nfs_proto.specs.declared.call.Call.TheVariants.{Remove}
 use Rattle.fs_rules.specs.Handle.{number_in}
 use Rattle.fs_rules.specs.Edits.{Changed, edited}
 use Rattle.fs_rules.specs.Names.{without_name, loses_link}
-use Rattle.fs_tree.specs.Taking.{CanTake}
-use Rattle.fs_tree.proofs.TakeLemmas.{meets_two}
-use Rattle.fs_tree.proofs.RemoveLemmas.{number_loses, made_loses}
+use Rattle.fs_edits.specs.Taking.{CanTake}
+use Rattle.fs_tree.proofs.TakenLemmas.{meets_two}
+use Rattle.fs_decisions.proofs.RemoveLemmas.{number_loses, made_loses}
 use Rattle.fs_tree.proofs.remove.remove.Goals as goal
 
 pub take_link_of-requires : goal.take_link_of-requires

@@ -3,8 +3,8 @@ use Rattle.nfs_proto.specs.declared.call.Call.TheVariants.{RemoveDir}
 use Rattle.fs_rules.specs.Handle.{number_in}
 use Rattle.fs_rules.specs.Edits.{Changed, Freed, edited}
 use Rattle.fs_rules.specs.Names.{without_name, unlinked}
-use Rattle.fs_tree.specs.Taking.{CanTake}
-use Rattle.fs_tree.proofs.TakeLemmas.{meets_two}
+use Rattle.fs_edits.specs.Taking.{CanTake}
+use Rattle.fs_tree.proofs.TakenLemmas.{meets_two}
 use Rattle.fs_tree.proofs.remove_dir.remove_dir.Goals as goal
 
 pub take_last-requires : goal.take_last-requires

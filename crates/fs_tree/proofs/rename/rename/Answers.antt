@@ -1,6 +1,6 @@
 use Rattle.std.proofs.Common.{refl}
 use Rattle.nfs_proto.specs.declared.call.Call.TheVariants.{Rename}
-use Rattle.fs_tree.proofs.MovingLemmas.{meets_moved}
+use Rattle.fs_tree.proofs.MovedLemmas.{meets_moved}
 use Rattle.fs_tree.proofs.rename.rename.Goals as goal
 
 pub carry_over-requires-clause-moves : goal.carry_over-requires-clause-moves

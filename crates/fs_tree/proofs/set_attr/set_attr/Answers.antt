@@ -9,11 +9,12 @@ use Rattle.fs_rules.specs.Handle.{number_in}
 use Rattle.fs_rules.specs.File.{fattr_of}
 use Rattle.fs_rules.specs.Arguments.{file_of}
 use Rattle.fs_rules.specs.Attributes.{with_attributes}
-use Rattle.fs_tree.specs.Steps.{Fits}
-use Rattle.fs_tree.proofs.RespondLemmas.{named_there}
-use Rattle.fs_tree.proofs.ChangeLemmas.{meets_refused, meets_changed, put_back, told_back, one_file, put_there}
+use Rattle.fs_decisions.specs.Steps.{Fits}
+use Rattle.fs_decisions.proofs.RowLemmas.{named_there}
+use Rattle.fs_tree.proofs.ChangedLemmas.{meets_refused, meets_changed, told_back}
+use Rattle.fs_edits.proofs.PutLemmas.{put_back, one_file, put_there}
 use Rattle.fs_tree.proofs.MeetsLemmas.{meets_told}
-use Rattle.fs_tree.proofs.SetAttrLemmas.{set_attr_nothing, set_attr_passes, set_attr_fits, set_attr_change}
+use Rattle.fs_decisions.proofs.SetAttrLemmas.{set_attr_nothing, set_attr_passes, set_attr_fits, set_attr_change}
 use Rattle.fs_tree.proofs.set_attr.set_attr.Goals as goal
 
 pub returns-in-Err : goal.returns-in-Err

@@ -12,12 +12,14 @@ use Rattle.fs_rules.specs.File.{fattr_of}
 use Rattle.fs_rules.specs.Statuses.{first_failure}
 use Rattle.fs_rules.specs.Arguments.{file_of}
 use Rattle.fs_rules.specs.Writing.{is_nothing, write_checks, with_bytes}
-use Rattle.fs_tree.specs.Steps.{Fits, change_limits}
+use Rattle.fs_decisions.specs.Steps.{Fits}
+use Rattle.fs_decisions.specs.Limits.{change_limits}
 use Rattle.fs_checks.proofs.FactsLemmas.{passed as has_passed, failed}
-use Rattle.fs_tree.proofs.RespondLemmas.{named_there}
-use Rattle.fs_tree.proofs.ChangeLemmas.{meets_refused, meets_changed, put_back, told_back, one_file, put_there}
+use Rattle.fs_decisions.proofs.RowLemmas.{named_there}
+use Rattle.fs_tree.proofs.ChangedLemmas.{meets_refused, meets_changed, told_back}
+use Rattle.fs_edits.proofs.PutLemmas.{put_back, one_file, put_there}
 use Rattle.fs_tree.proofs.MeetsLemmas.{meets_told}
-use Rattle.fs_tree.proofs.WriteLemmas.{so, writes_no_directory, writes_within, grown_within, write_change, write_fits, write_nothing, write_limited, write_passes}
+use Rattle.fs_decisions.proofs.WriteLemmas.{so, writes_no_directory, writes_within, grown_within, write_change, write_fits, write_nothing, write_limited, write_passes}
 use Rattle.fs_tree.proofs.write.write.Goals as goal
 
 pub returns-in-Err-clause-meets : goal.returns-in-Err-clause-meets
