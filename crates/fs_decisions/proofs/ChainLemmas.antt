@@ -64,22 +64,9 @@ by_tests t dir source leads above p q =
     ∙ ap (λ b. first_failure (cond (not leads) (Some nametoolong) None ∷ cond b (Some io) None ∷ [])) (sym q)
 
 module _ (t : PlainTree) (dir source moves : ℕ) (at : Option ℕ) (leads above : Bool) (m : IsMoved t dir source moves at above) (all : moves ≡ 200) (is : leads ≡ option_map_or (λ a. a == 1) at false) where
-  row : first_failure (chain_row t dir source) ≡ first_failure (cond (not leads) (Some nametoolong) None ∷ cond above (Some io) None ∷ [])
+  -- the checks, by what the walk found
+  pub row : first_failure (chain_row t dir source) ≡ first_failure (cond (not leads) (Some nametoolong) None ∷ cond above (Some io) None ∷ [])
   row =
       by_tests t dir source leads above
       (is ∙ ap (λ (o : Option ℕ). option_map_or (λ a. a == 1) o false) (m.there ∙ ap (λ k. ancestor t k dir) all))
       (m.past ∙ ap (λ k. list_any (λ k. leads_to t k dir source) (below (suc k))) all)
-
-  pub too_deep : leads ≡ false → Some 63 ≡ first_failure (chain_row t dir source)
-  unfolding first_failure
-  too_deep deep = sym (row ∙ ap (λ b. first_failure (cond (not b) (Some nametoolong) None ∷ cond above (Some io) None ∷ [])) deep)
-
-  pub is_above : leads ≡ true → above ≡ true → Some 5 ≡ first_failure (chain_row t dir source)
-  unfolding first_failure
-  is_above leads' past =
-      sym (row ∙ ap (λ b. first_failure (cond (not b) (Some nametoolong) None ∷ cond above (Some io) None ∷ [])) leads' ∙ ap (λ b. first_failure (None ∷ cond b (Some io) None ∷ [])) past)
-
-  pub is_around : leads ≡ true → above ≡ false → None ≡ first_failure (chain_row t dir source)
-  unfolding first_failure
-  is_around leads' past =
-      sym (row ∙ ap (λ b. first_failure (cond (not b) (Some nametoolong) None ∷ cond above (Some io) None ∷ [])) leads' ∙ ap (λ b. first_failure (None ∷ cond b (Some io) None ∷ [])) past)

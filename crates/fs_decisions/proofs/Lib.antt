@@ -8,7 +8,6 @@ pub mod WriteLemmas
 pub mod DirectoryLemmas
 pub mod TakeLemmas
 pub mod RemoveLemmas
-pub mod RemoveDirLemmas
 pub mod LinkLemmas
 pub mod PairLemmas
 pub mod GrowthLemmas

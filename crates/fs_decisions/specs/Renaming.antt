@@ -13,10 +13,11 @@ use Rattle.fs_rules.specs.declared.plain_tree.PlainTree.{PlainTree}
 use Rattle.fs_rules.specs.Lists.{below}
 use Rattle.fs_rules.specs.File.{slots_of, is_directory}
 use Rattle.fs_rules.specs.Slots.{is_in_use}
-use Rattle.fs_rules.specs.Statuses.{Check, first_failure, fails_where, acces, noent, isdir, notdir, notempty, nametoolong, io}
+use Rattle.fs_rules.specs.Statuses.{Check, first_failure, fails_where, acces, noent}
 use Rattle.fs_rules.specs.Arguments.{at_number, is_dots}
 use Rattle.fs_rules.specs.Names.{Move, is_same, one_where, move_edits, leads_to}
 use Rattle.fs_rules.specs.Respond.{decided, respond}
+use Rattle.fs_checks.specs.Naming as naming
 use Rattle.fs_edits.specs.declared.plan.Plan.{Plan}
 use Rattle.fs_edits.specs.declared.replaced.Replaced.{Replaced}
 use Rattle.fs_edits.specs.declared.replaced.Replaced.TheVariants.{Nothing, LosesLink, IsFreed}
@@ -45,21 +46,14 @@ replaced_is t replaced test = option_map_or (λ n. at_number t n false test) rep
 
 -- the kind of what is moved, and the file that is replaced
 abbrev pub over_row : Bool → File → List Check
-over_row is_dir r =
-    fails_where notdir (is_dir && not (is_directory r.content))
-    ∷ fails_where isdir (not is_dir && is_directory r.content)
-    ∷ fails_where notempty (is_in_use (slots_of r.content))
-    ∷ []
+over_row is_dir r = naming.over_row is_dir r (is_in_use (slots_of r.content))
 
 abbrev pub kind_check : PlainTree → ℕ → Option ℕ → Check
 kind_check t s replaced = option_map_or (λ n. at_number t n None (λ r. first_failure (over_row (is_dir_at t s) r))) replaced None
 
 -- the chain of parents from the directory b
 abbrev pub chain_row : PlainTree → ℕ → ℕ → List Check
-chain_row t b s =
-    fails_where nametoolong (not (leads_to t 200 b 1))
-    ∷ fails_where io (list_any (λ moves. leads_to t moves b s) (below 201))
-    ∷ []
+chain_row t b s = naming.way_row (leads_to t 200 b 1) (list_any (λ moves. leads_to t moves b s) (below 201))
 
 -- a directory goes from one directory to another
 abbrev pub goes_across : PlainTree → ℕ → ℕ → ℕ → Bool

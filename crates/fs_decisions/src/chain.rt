@@ -7,7 +7,7 @@ ghost use Rattle.fs_decisions.specs.Renaming.{chain_row};
 
 use crate::live::file_at;
 use crate::names::parent_of;
-use fs_checks::Status;
+use fs_checks::{Status, check_way};
 use fs_rules::{PlainTree, ROOT};
 
 /// The most moves to a parent that lead from a directory to the root, for a directory to be moved into it.
@@ -19,7 +19,6 @@ const MAX_PARENTS: u32 = 200;
 ///
 /// [`Status::NAMETOOLONG`] where more than [`MAX_PARENTS`] moves to a parent lead from there to the root, and
 /// [`Status::IO`] where `source` is on that way.
-#[tactic(auto, unfolding(fs_rules::specs::Statuses::first_failure))]
 pub(crate) fn check_chain(tree: &PlainTree, dir: u32, source: u32) -> Result<(), Status>
     requires { IsGood tree.now }
     ensures { result ≡ verdict (first_failure (chain_row tree.now dir source)) }
@@ -30,13 +29,7 @@ pub(crate) fn check_chain(tree: &PlainTree, dir: u32, source: u32) -> Result<(),
         at = parent_of_any(tree, at);
         is_above |= is_at(at, source);
     }
-    if !is_at(at, ROOT) {
-        return Err(Status::NAMETOOLONG);
-    }
-    if is_above {
-        return Err(Status::IO);
-    }
-    Ok(())
+    check_way(is_at(at, ROOT), is_above)
 }
 
 /// Whether a number is there and is this one.

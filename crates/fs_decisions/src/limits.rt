@@ -10,15 +10,9 @@ ghost use Rattle.fs_decisions.specs.Limits.{change_limits, grown_limits, is_spen
 
 use crate::live::file_at;
 use crate::space::free_blocks;
-use fs_checks::Status;
+use fs_checks::{Status, check_counts, check_rises, check_room};
 use fs_content::slots_after_put;
 use fs_rules::{Content, File, PlainTree, SLOTS_PER_BLOCK, chains_up_to};
-
-/// The most links of a file.
-pub(crate) const MAX_LINKS: u32 = 32_000;
-
-/// The most slots of a directory: one chaining block refers to so many blocks.
-pub(crate) const MAX_SLOTS: usize = 7_650;
 
 /// That a file that was changed so often may be changed again, and grow by so many blocks.
 ///
@@ -30,13 +24,8 @@ pub fn check_limits(tree: &PlainTree, change: u64, rise: usize) -> Result<(), St
     ensures exact { result ≡ verdict (change_limits tree.now change rise) }
     ensures rises { OnOk result (change < 2 ^ 64 - 1) }
 {
-    if is_last(change) {
-        return Err(Status::FBIG);
-    }
-    if (free_blocks(tree) as usize) < rise {
-        return Err(Status::NOSPC);
-    }
-    Ok(())
+    check_rises(is_last(change))?;
+    check_room(free_blocks(tree) as usize, rise)
 }
 
 /// That a directory may get so many links and slots, where a change number that would rise may be spent.
@@ -55,26 +44,22 @@ pub(crate) fn check_growth(
     ensures exact { result ≡ verdict (grown_limits tree.now is_spent links dir.now slots) }
     ensures rises { OnOk result (is_spent ≡ false) }
 {
-    if is_spent {
-        return Err(Status::FBIG);
-    }
-    if links > MAX_LINKS || slots > MAX_SLOTS || is_full(tree, dir, slots) {
-        return Err(Status::NOSPC);
-    }
-    Ok(())
+    check_rises(is_spent)?;
+    check_counts(links, slots)?;
+    check_room(free_blocks(tree) as usize, rise_to(dir, slots))
 }
 
-/// Whether there are too few free blocks for a directory with so many slots.
-pub(crate) fn is_full(tree: &PlainTree, dir: &File, slots: usize) -> bool
-    requires good { IsGood tree.now }
-    requires few { slots ≤ 7650 }
-    ensures { result ≡ nat_lt (free_blocks tree.now) (used_by slots - used dir.now.content) }
+/// By how many blocks a directory grows where it gets so many slots.
+pub(crate) fn rise_to(dir: &File, slots: usize) -> usize
+    requires { slots ≤ 7650 }
+    ensures exact { result ≡ used_by slots - used dir.now.content }
+    ensures few { result ≤ 512 }
 {
-    (free_blocks(tree) as usize) < used_by(slots).saturating_sub(dir.content.used())
+    used_by(slots).saturating_sub(dir.content.used())
 }
 
-/// How many blocks a directory with so many slots uses.
-pub(crate) fn used_by(slots: usize) -> usize
+// How many blocks a directory with so many slots uses.
+fn used_by(slots: usize) -> usize
     requires { slots ≤ 7650 }
     ensures exact { result ≡ used_by slots }
     ensures few { result ≤ 512 }

@@ -1,4 +1,4 @@
-ghost use Rattle.std.specs.Prelude.{◌≡◌, ◌-◌, ◌^◌, ◌<◌, ℕ, IfErr, OnOk};
+ghost use Rattle.std.specs.Prelude.{◌≡◌, ◌-◌, ◌^◌, ◌<◌, ◌≤◌, ◌==◌, ◌||◌, ℕ, false, IfErr, OnOk};
 ghost use Rattle.nfs_proto.specs.declared.call.Call.TheVariants.{Link};
 ghost use Rattle.nfs_proto.specs.declared.stamp.Stamp.{Stamp as AStamp};
 ghost use Rattle.fs_rules.specs.Good.{IsGood};
@@ -10,11 +10,11 @@ ghost use Rattle.fs_decisions.specs.Steps.{refused};
 ghost use Rattle.fs_decisions.specs.Linking.{link_limits, MayLink};
 
 use crate::directory::directory_of;
-use crate::limits::{MAX_LINKS, MAX_SLOTS, is_full, is_last, slots_with};
+use crate::limits::{check_growth, is_last, slots_with};
 use crate::live::live_file;
 use crate::names::is_taken;
-use fs_checks::Status;
-use fs_rules::{Content, Cred, File, Handle, PlainTree};
+use fs_checks::{Facts, Status};
+use fs_rules::{Cred, File, Handle, PlainTree};
 
 /// That the call may give the name.
 pub fn may_link(
@@ -35,30 +35,26 @@ pub fn may_link(
 }
 
 // That a file, which is no directory, may get a name in a directory, which does not have it.
-#[tactic(auto, unfolding(fs_rules::specs::Statuses::first_failure, fs_rules::specs::Names::link_checks))]
 fn check_name_free(file: &File, dir: &File, name: &[u8]) -> Result<(), Status>
     ensures { result ≡ verdict (first_failure (link_checks file.now dir.now name.now)) }
 {
-    if let Content::Directory { .. } = &file.content {
-        return Err(Status::PERM);
-    }
-    if is_taken(&dir.content, name) {
-        return Err(Status::EXIST);
-    }
-    Ok(())
+    Facts::of_file(file).check_link(is_taken(&dir.content, name))
 }
 
 // That no limit forbids that a file gets a name in a directory, which has so many slots then.
 fn check_room(tree: &PlainTree, file: &File, dir: &File, slots: usize) -> Result<(), Status>
-    requires { IsGood tree.now }
+    requires good { IsGood tree.now }
+    requires links { file.now.links ≤ 32000 }
     ensures exact { result ≡ verdict (link_limits tree.now file.now dir.now slots) }
     ensures rises { OnOk result ((dir.now.change < 2 ^ 64 - 1) × (file.now.change < 2 ^ 64 - 1)) }
 {
-    if is_last(dir.change) || is_last(file.change) {
-        return Err(Status::FBIG);
-    }
-    if file.links >= MAX_LINKS || slots > MAX_SLOTS || is_full(tree, dir, slots) {
-        return Err(Status::NOSPC);
-    }
-    Ok(())
+    check_growth(tree, is_either_last(dir, file), file.links + 1, dir, slots)
+}
+
+// Whether the change number of one of two files has its last value.
+fn is_either_last(a: &File, b: &File) -> bool
+    ensures value { result ≡ ((a.now.change == 2 ^ 64 - 1) || (b.now.change == 2 ^ 64 - 1)) }
+    ensures rises { result ≡ false → (a.now.change < 2 ^ 64 - 1) × (b.now.change < 2 ^ 64 - 1) }
+{
+    is_last(a.change) || is_last(b.change)
 }

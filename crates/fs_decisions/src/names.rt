@@ -7,6 +7,7 @@ ghost use Rattle.fs_rules.specs.Arguments.{at_number, is_dots};
 use crate::live::file_at;
 use fs_checks::is_dots;
 use fs_content::{file_named, is_in_use};
+use fs_edits::is_directory;
 use fs_rules::{Content, PlainTree};
 
 /// The directory in which the name of a directory lies; another file has none.
@@ -44,13 +45,6 @@ pub(crate) fn has_names(content: &Content) -> bool
         Content::Directory { slots, .. } => is_in_use(slots),
         _ => false,
     }
-}
-
-/// Whether a file is a directory.
-pub(crate) fn is_directory(content: &Content) -> bool
-    ensures { result ≡ is_directory content.now }
-{
-    matches!(content, Content::Directory { .. })
 }
 
 /// Whether the file with a number is a directory.

@@ -6,10 +6,10 @@ ghost use Rattle.fs_rules.specs.File.{is_directory};
 ghost use Rattle.fs_rules.specs.Slots as slot;
 ghost use Rattle.fs_decisions.specs.Limits.{is_pick, used_by, made_limits};
 
-use crate::limits::{MAX_LINKS, MAX_SLOTS, is_last, used_by};
+use crate::limits::{is_last, rise_to};
 use crate::numbers::is_pick;
 use crate::space::free_blocks;
-use fs_checks::Status;
+use fs_checks::{Status, check_counts, check_rises};
 use fs_rules::{File, PlainTree};
 
 /// The number of a file that is made in a directory, which then has so many links and slots: the one that
@@ -33,14 +33,12 @@ pub fn place_for(
     ensures rises { OnOk result (dir.now.change < 2 ^ 64 - 1) }
     ensures err { is_directory dir.now.content ≡ true → IfErr result (λ status. made_limits tree.now dir.now links slots more pick ≡ Some status.0) }
 {
-    if is_last(dir.change) {
-        return Err(Status::FBIG);
-    }
-    if links > MAX_LINKS || slots > MAX_SLOTS || !is_pick(tree, pick) {
+    check_rises(is_last(dir.change))?;
+    check_counts(links, slots)?;
+    if !is_pick(tree, pick) {
         return Err(Status::NOSPC);
     }
-    let own = used_by(slots).saturating_sub(dir.content.used());
-    match (free_blocks(tree) as usize).checked_sub(own) {
+    match (free_blocks(tree) as usize).checked_sub(rise_to(dir, slots)) {
         Some(left) if left >= more => pick.ok_or(Status::NOSPC),
         _ => Err(Status::NOSPC),
     }

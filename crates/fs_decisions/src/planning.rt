@@ -16,9 +16,9 @@ use crate::chain::{check_chain, is_at};
 use crate::decision::Decision;
 use crate::limits::{check_growth, is_last, is_spent, slots_with};
 use crate::live::{file_at, live_file};
-use crate::names::{has_names, is_directory, is_directory_at, number_named};
+use crate::names::{has_names, is_directory_at, number_named};
 use fs_checks::{Facts, Status, check_pair, is_dots};
-use fs_edits::{Plan, Replaced, has_other_names};
+use fs_edits::{Plan, Replaced, has_other_names, is_directory};
 use fs_rules::{Cred, File, Handle, PlainTree, number_at};
 
 /// What the rules say of a RENAME of a name of one directory to a name of another one, or of the same (RFC
@@ -143,19 +143,10 @@ fn check_kind(tree: &PlainTree, source: u32, replaced: Option<u32>) -> Result<()
 }
 
 // That a directory, or another file, may be moved over a file.
-#[tactic(auto, unfolding(fs_rules::specs::Statuses::first_failure))]
 fn check_over(is_dir: bool, replaced: &File) -> Result<(), Status>
     ensures { result ≡ verdict (first_failure (over_row is_dir replaced.now)) }
 {
-    match (is_dir, is_directory(&replaced.content)) {
-        (true, false) => return Err(Status::NOTDIR),
-        (false, true) => return Err(Status::ISDIR),
-        _ => {}
-    }
-    if has_names(&replaced.content) {
-        return Err(Status::NOTEMPTY);
-    }
-    Ok(())
+    Facts::of_file(replaced).check_over(is_dir, has_names(&replaced.content))
 }
 
 // What is moved, and what becomes of the file that is replaced.

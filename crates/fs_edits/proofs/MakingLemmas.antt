@@ -27,13 +27,6 @@ where_ok (Err e) is holds = absurd cc
 
 -- ---- files by their numbers
 
--- a file that is put over the one that stood there for a while
-pub put_again : (m : FinMap nat_cmp File) (n : ℕ) (v w : File) (between last : FinMap nat_cmp File) (o : Option File)
-    → between ≡ insert m n v → o ≡ get between n → OnSome o (last ≡ insert between n w) → last ≡ insert m n w
-put_again m n v w between last o is stood put =
-    where_some o v (stood ∙ ap (λ (x : FinMap nat_cmp File). get x n) is ∙ get_inserted m n v n refl) put
-    ∙ ap (λ (x : FinMap nat_cmp File). insert x n w) is ∙ insert_over m n v w
-
 -- two files at two numbers, in either order
 pub swapped : (m : FinMap nat_cmp File) (j k : ℕ) (v w : File) → j ≢ k → insert (insert m k w) j v ≡ insert (insert m j v) k w
 swapped m j k v w apart = same_look_ups _ _ (λ q. go q (cases_eq q j) (cases_eq q k)) where

@@ -5,7 +5,7 @@ ghost use Rattle.fs_rules.specs.Making.{with_name, linked};
 ghost use Rattle.fs_rules.specs.Edits.{Changed, changed_at, edited};
 ghost use Rattle.fs_edits.specs.Giving.{CanGain, CanGive};
 
-use crate::change::{placeholder, put};
+use crate::change::{put, take_out};
 use crate::make::put_entry;
 use fs_rules::{Bytes, Entry, File, NoMemory, PlainTree, Stamp};
 use std::alloc::Global;
@@ -41,9 +41,7 @@ fn add_link(alloc: Global, tree: &mut PlainTree, number: u32, now: Stamp)
     requires { (f : AFile) × (map.get tree.old.files number ≡ Some f) × CanGain f }
     ensures { (f : AFile) → map.get tree.old.files number ≡ Some f → tree.new ≡ record tree.old { files = map.insert tree.old.files number (changed_at now (linked f)) } }
 {
-    let Some(file) = tree.files.replace(number, placeholder(alloc)) else {
-        return;
-    };
+    let file = take_out(alloc, tree, number);
     let file = File {
         links: file.links + 1,
         ..file

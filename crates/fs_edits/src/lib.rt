@@ -18,10 +18,10 @@ mod take;
 
 pub use attributes::with_attributes;
 pub use bytes::with_bytes;
-pub use change::{changed, placeholder};
+pub use change::{changed, put_back, take_out};
 pub use give::give_one;
 pub use make::{kept_at, make_file};
 pub use moving::carry_over;
 pub use plan::Plan;
 pub use replaced::Replaced;
-pub use take::{has_other_names, take_last, take_link_of};
+pub use take::{has_other_names, is_directory, take_entry};

@@ -9,7 +9,7 @@ ghost use Rattle.fs_rules.specs.Edits.{Changed, Made, changed_at, edited};
 ghost use Rattle.fs_rules.specs.Making.{with_slots};
 ghost use Rattle.fs_edits.specs.Giving.{receiving, CanReceive};
 
-use crate::change::{changed, placeholder};
+use crate::change::{changed, put_back, take_out};
 use fs_content::put_name;
 use fs_rules::{
     BLOCK_BYTES, Bytes, Content, Entry, File, Kept, NoMemory, PlainTree, SLOTS_PER_BLOCK, Stamp,
@@ -59,16 +59,14 @@ pub(crate) fn put_entry(
         → OnOk result (tree.new ≡ record tree.old { files = map.insert tree.old.files parent (changed_at now (receiving now entry.name entry.file links d)) }) }
     ensures err { OnErr result (tree.new ≡ tree.old) }
 {
-    let Some(dir) = tree.files.replace(parent, placeholder(alloc)) else {
-        return Err(NoMemory);
-    };
+    let dir = take_out(alloc, tree, parent);
     match with_entry(alloc, dir, entry, links, now) {
         Ok(dir) => {
-            tree.files.replace(parent, dir);
+            put_back(tree, parent, dir);
             Ok(())
         }
         Err(dir) => {
-            tree.files.replace(parent, dir);
+            put_back(tree, parent, dir);
             Err(NoMemory)
         }
     }

@@ -10,7 +10,7 @@ ghost use Rattle.fs_edits.specs.Giving.{CanReceive};
 ghost use Rattle.fs_edits.specs.declared.replaced.Replaced.TheVariants.{IsFreed};
 ghost use Rattle.fs_edits.specs.Moving.{moved_edits, exchanged, CanMove, CanReplace};
 
-use crate::change::{placeholder, put};
+use crate::change::{put, put_back, take_out};
 use crate::make::{content_with, put_entry};
 use crate::plan::Plan;
 use crate::replaced::Replaced;
@@ -131,16 +131,14 @@ fn exchange(
         → OnOk result (tree.new ≡ record tree.old { files = map.insert tree.old.files number (changed_at now (exchanged now entry old_name.now links d)) }) }
     ensures err { OnErr result (tree.new ≡ tree.old) }
 {
-    let Some(dir) = tree.files.replace(number, placeholder(alloc)) else {
-        return Err(NoMemory);
-    };
+    let dir = take_out(alloc, tree, number);
     match with_exchange(alloc, dir, entry, old_name, links, now) {
         Ok(dir) => {
             put(tree, number, dir, now);
             Ok(())
         }
         Err(dir) => {
-            tree.files.replace(number, dir);
+            put_back(tree, number, dir);
             Err(NoMemory)
         }
     }
@@ -180,9 +178,7 @@ fn set_parent(alloc: Global, tree: &mut PlainTree, number: u32, parent: u32, now
     ensures { (f : AFile) → map.get tree.old.files number ≡ Some f
         → tree.new ≡ record tree.old { files = map.insert tree.old.files number (changed_at now (record f { content = with_parent parent f.content })) } }
 {
-    let Some(file) = tree.files.replace(number, placeholder(alloc)) else {
-        return;
-    };
+    let file = take_out(alloc, tree, number);
     let content = with_parent(file.content, parent);
     put(tree, number, File { content, ..file }, now);
 }

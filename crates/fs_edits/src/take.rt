@@ -1,23 +1,24 @@
 ghost use Rattle.std.specs.Prelude.{◌≡◌, [], ◌∷◌, ◌+◌, ◌-◌, ◌*◌, ◌/◌, ◌^◌, ◌<◌, ◌≤◌, nat_lt, length, OnOk, OnErr};
 ghost use Rattle.std.specs.FinMap as map;
 ghost use Rattle.fs_rules.specs.declared.file.File.{File as AFile};
-ghost use Rattle.fs_rules.specs.File.{slots_of};
+ghost use Rattle.fs_rules.specs.File.{is_directory, slots_of};
 ghost use Rattle.fs_rules.specs.Slots.{take_name};
 ghost use Rattle.fs_rules.specs.Making.{with_slots};
-ghost use Rattle.fs_rules.specs.Names.{without_name, unlinked, loses_link};
+ghost use Rattle.fs_rules.specs.Names.{without_name, unlinked, one_where};
 ghost use Rattle.fs_rules.specs.Edits.{Changed, Freed, changed_at, edited};
-ghost use Rattle.fs_edits.specs.Taking.{HasRoom, CanLose, CanTake};
+ghost use Rattle.fs_edits.specs.Taking.{HasRoom, CanLose, CanTake, taken_edits};
 
-use crate::change::{placeholder, put};
+use crate::change::{put, take_out};
 use fs_content::take_name;
 use fs_rules::{
     BLOCK_BYTES, Content, File, Kept, NoMemory, PlainTree, SLOTS_PER_BLOCK, Slots, Stamp,
 };
 use std::alloc::Global;
 
-/// Takes a name of a file from a directory; where it was the last, the file is freed. On [`NoMemory`] the
-/// tree is as before.
-pub fn take_link_of(
+/// Takes a name of a file from a directory, and a link from the file: where that was its last, and of a
+/// directory, the file is freed. A directory takes the link to its parent along. On [`NoMemory`] the tree is
+/// as before.
+pub fn take_entry(
     alloc: Global,
     tree: &mut PlainTree,
     number: u32,
@@ -25,19 +26,29 @@ pub fn take_link_of(
     file: u32,
     now: Stamp,
 ) -> Result<(), NoMemory>
-    requires { (d : AFile) × (f : AFile) × CanTake tree.old number file 0 d f }
-    ensures ok { (d : AFile) → (f : AFile) → CanTake tree.old number file 0 d f
-        → OnOk result (tree.new ≡ edited now tree.old (Changed number (without_name now name.now d) ∷ loses_link file f ∷ [])) }
+    requires { (d : AFile) × (f : AFile) × CanTake tree.old number file (one_where (is_directory f.content)) d f }
+    ensures ok { (d : AFile) → (f : AFile) → CanTake tree.old number file (one_where (is_directory f.content)) d f
+        → OnOk result (tree.new ≡ edited now tree.old (taken_edits now number name.now d file f)) }
     ensures err { OnErr result (tree.new ≡ tree.old) }
 {
-    let Some(linked) = tree.files.get(file) else {
+    let Some(taken) = tree.files.get(file) else {
         return Err(NoMemory);
     };
-    if has_other_names(linked) {
+    if is_directory(&taken.content) {
+        return take_last(alloc, tree, number, name, 1, file, now);
+    }
+    if has_other_names(taken) {
         take_one(alloc, tree, number, name, file, now);
         return Ok(());
     }
     take_last(alloc, tree, number, name, 0, file, now)
+}
+
+/// Whether a file is a directory.
+pub fn is_directory(content: &Content) -> bool
+    ensures { result ≡ is_directory content.now }
+{
+    matches!(content, Content::Directory { .. })
 }
 
 /// Whether a file, which is no directory, has more than one name.
@@ -100,9 +111,7 @@ pub(crate) fn take_from(
     requires { (d : AFile) × (map.get tree.old.files number ≡ Some d) × HasRoom d × CanLose links d }
     ensures { (d : AFile) → map.get tree.old.files number ≡ Some d → tree.new ≡ record tree.old { files = map.insert tree.old.files number (changed_at now (unlinked links (without_name now name.now d))) } }
 {
-    let Some(dir) = tree.files.replace(number, placeholder(alloc)) else {
-        return;
-    };
+    let dir = take_out(alloc, tree, number);
     let dir = without_name(dir, name, links, now);
     put(tree, number, dir, now);
 }
@@ -112,9 +121,7 @@ pub(crate) fn take_link(alloc: Global, tree: &mut PlainTree, number: u32, now: S
     requires { (f : AFile) × (map.get tree.old.files number ≡ Some f) × CanLose 1 f }
     ensures { (f : AFile) → map.get tree.old.files number ≡ Some f → tree.new ≡ record tree.old { files = map.insert tree.old.files number (changed_at now (unlinked 1 f)) } }
 {
-    let Some(file) = tree.files.replace(number, placeholder(alloc)) else {
-        return;
-    };
+    let file = take_out(alloc, tree, number);
     let file = File {
         links: file.links - 1,
         ..file

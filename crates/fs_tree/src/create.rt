@@ -13,7 +13,7 @@ use crate::new_file::{NewFile, make_new};
 use crate::response::{Change, Response};
 use fs_checks::{Facts, Status, check_new, chosen, is_dots, is_set, size_alone};
 use fs_decisions::{check_limits, directory_of, file_at, number_named};
-use fs_edits::{placeholder, with_attributes};
+use fs_edits::{take_out, with_attributes};
 use fs_rules::{Blocks, Content, Cred, Handle, NoMemory, PlainTree, Sattr, Stamp, number_at};
 use std::alloc::Global;
 
@@ -93,9 +93,7 @@ fn set_size(
     if let Err(status) = check_limits(tree, file.change, 0) {
         return Response::refused(status);
     }
-    let Some(file) = tree.files.replace(number, placeholder(alloc)) else {
-        return Response::refused(Status::STALE);
-    };
+    let file = take_out(alloc, tree, number);
     let file = with_attributes(alloc, file, size_alone(set), now);
     let generation = file.generation;
     let attr = put_file(tree, number, file, now);

@@ -16,7 +16,6 @@ mod new_file;
 mod procedures;
 mod read;
 mod remove;
-mod remove_dir;
 mod rename;
 mod response;
 mod set_attr;

@@ -5,10 +5,10 @@ ghost use Rattle.fs_rules.specs.Respond.{respond};
 ghost use Rattle.fs_tree.specs.Meets.{Meets};
 ghost use Rattle.fs_decisions.specs.Steps.{refused};
 
-use crate::response::{Change, Response};
+use crate::response::Response;
 use fs_decisions::may_link;
 use fs_edits::give_one;
-use fs_rules::{Answer, Cred, Handle, NoMemory, PlainTree, Stamp, number_at};
+use fs_rules::{Cred, Handle, NoMemory, PlainTree, Stamp, number_at};
 use std::alloc::Global;
 
 /// LINK: gives a file, which is no directory, a new name (RFC 1094, section 2.2.13).
@@ -30,8 +30,5 @@ pub(crate) fn link(
     }
     let linked = number_at(file);
     give_one(alloc, tree, number_at(dir), name, linked, now)?;
-    Ok(Response {
-        answer: Answer::Plain,
-        change: Some(Change { made: None }),
-    })
+    Ok(Response::done())
 }

@@ -8,9 +8,9 @@ ghost use Rattle.fs_decisions.specs.Steps.{refused};
 
 use crate::change::put_changed;
 use crate::response::Response;
-use fs_checks::{Status, sets_something};
+use fs_checks::sets_something;
 use fs_decisions::may_set_attr;
-use fs_edits::{placeholder, with_attributes};
+use fs_edits::{take_out, with_attributes};
 use fs_rules::{Answer, Cred, Handle, PlainTree, Sattr, Stamp, number_at};
 use std::alloc::Global;
 
@@ -34,8 +34,6 @@ pub(crate) fn set_attr(
     if !sets_something(set) {
         return Response::told(Answer::Attr(file.fattr(number)));
     }
-    let Some(file) = tree.files.replace(number, placeholder(alloc)) else {
-        return Response::refused(Status::STALE);
-    };
+    let file = take_out(alloc, tree, number);
     put_changed(tree, number, with_attributes(alloc, file, *set, now), now)
 }

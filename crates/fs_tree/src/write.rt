@@ -8,9 +8,8 @@ ghost use Rattle.fs_decisions.specs.Steps.{refused};
 
 use crate::change::put_changed;
 use crate::response::Response;
-use fs_checks::Status;
 use fs_decisions::{check_limits, may_write, rise};
-use fs_edits::{placeholder, with_bytes};
+use fs_edits::{put_back, take_out, with_bytes};
 use fs_rules::{Answer, Cred, Handle, NoMemory, PlainTree, Stamp, number_at};
 use std::alloc::Global;
 
@@ -40,13 +39,11 @@ pub(crate) fn write(
     if let Err(status) = check_limits(tree, file.change, rise(file, offset, bytes)) {
         return Ok(Response::refused(status));
     }
-    let Some(file) = tree.files.replace(number, placeholder(alloc)) else {
-        return Ok(Response::refused(Status::STALE));
-    };
+    let file = take_out(alloc, tree, number);
     match with_bytes(alloc, file, offset, bytes, now) {
         Ok(file) => Ok(put_changed(tree, number, file, now)),
         Err(file) => {
-            tree.files.replace(number, file);
+            put_back(tree, number, file);
             Err(NoMemory)
         }
     }

@@ -34,4 +34,4 @@ returns-clause-meets c start =
     ∙ ap (λ (k : ℕ). edited now t (Changed k (with_name now name c.number_at-linked.result r.d) ∷ Changed c.number_at-linked.result (linked r.f) ∷ [])) c.number_at.ensures
     ∙ ap (λ (k : ℕ). edited now t (Changed n (with_name now name k r.d) ∷ Changed k (linked r.f) ∷ [])) c.number_at-linked.ensures in
     meets_two t c.give_one.new.tree (Link c.args.file.now c.args.dir.now name) now n r.d (with_name now name m r.d) (Changed m (linked r.f)) _ _
-    r.gives.dir refl r.gives.apart refl r.answers (λ u. refl) left refl refl
+    r.gives.dir refl r.gives.apart refl r.answers (λ u. refl) left c.done.ensures.answer c.done.ensures.change
