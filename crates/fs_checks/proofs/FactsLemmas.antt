@@ -1,5 +1,5 @@
 -- The checks look at the facts of a file alone.
-use Rattle.std.proofs.Common.{◌≡◌, ℕ, List, Some, None, Result, Ok, Err, refl, sym, ap, ◌∙◌}
+use Rattle.std.proofs.Common.{◌≡◌, ℕ, Bool, List, Some, None, Result, Ok, Err, refl, sym, ap, ◌∙◌}
 use Rattle.rpc_msg.specs.declared.cred.Cred.{Cred}
 use Rattle.nfs_proto.specs.declared.sattr.Sattr.{Sattr}
 use Rattle.fs_rules.specs.declared.content.Content.{Content}
@@ -16,6 +16,7 @@ use Rattle.fs_checks.specs.declared.facts.Facts.{Facts}
 use Rattle.fs_checks.specs.declared.status.Status.{Status}
 use Rattle.fs_checks.specs.Facts.{facts_of, bare}
 use Rattle.fs_checks.specs.Rows.{is_one, directory_row, pair_row, read_dir_row}
+use Rattle.fs_checks.specs.Naming.{link_row, over_row}
 use Rattle.fs_checks.specs.Verdict.{verdict}
 
 -- ---- what is decided
@@ -100,6 +101,20 @@ module _ (cred : Cred) where
 pub is_one_looks : (f : File) → is_one (bare (facts_of f)) ≡ is_one f
 is_one_looks f = go f.content where
   go : (c : Content) → is_one (bare (facts_of (record f { content = c }))) ≡ is_one (record f { content = c })
+  go (Regular blocks) = refl
+  go (Directory slots parent) = refl
+  go (Link blocks) = refl
+
+pub link_looks : (taken : Bool) (f : File) → link_row (bare (facts_of f)) taken ≡ link_row f taken
+link_looks taken f = go f.content where
+  go : (c : Content) → link_row (bare (facts_of (record f { content = c }))) taken ≡ link_row (record f { content = c }) taken
+  go (Regular blocks) = refl
+  go (Directory slots parent) = refl
+  go (Link blocks) = refl
+
+pub over_looks : (is_dir in_use : Bool) (f : File) → over_row is_dir (bare (facts_of f)) in_use ≡ over_row is_dir f in_use
+over_looks is_dir in_use f = go f.content where
+  go : (c : Content) → over_row is_dir (bare (facts_of (record f { content = c }))) in_use ≡ over_row is_dir (record f { content = c }) in_use
   go (Regular blocks) = refl
   go (Directory slots parent) = refl
   go (Link blocks) = refl

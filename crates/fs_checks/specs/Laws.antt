@@ -1,5 +1,5 @@
 -- That the checks look at the facts of a file alone.
-use Rattle.std.specs.Prelude.{◌≡◌, ℕ, List}
+use Rattle.std.specs.Prelude.{◌≡◌, ℕ, Bool, List}
 use Rattle.rpc_msg.specs.declared.cred.Cred.{Cred}
 use Rattle.nfs_proto.specs.declared.sattr.Sattr.{Sattr}
 use Rattle.fs_rules.specs.declared.file.File.{File}
@@ -11,6 +11,7 @@ use Rattle.fs_rules.specs.Writing.{write_checks}
 use Rattle.fs_rules.specs.Making.{existing_checks}
 use Rattle.fs_checks.specs.Facts.{facts_of, bare}
 use Rattle.fs_checks.specs.Rows.{directory_row, pair_row, read_dir_row}
+use Rattle.fs_checks.specs.Naming.{link_row, over_row}
 
 -- what a check gives of each file it gives of the bare one with the same facts
 pub record LookAtFacts : Type 0 where
@@ -22,3 +23,5 @@ pub record LookAtFacts : Type 0 where
   pub pair : (cred : Cred) (c d : File) (from_name to_name : List ℕ) → pair_row (bare (facts_of c)) from_name (bare (facts_of d)) to_name cred ≡ pair_row c from_name d to_name cred
   pub list : (cred : Cred) (f : File) → read_dir_row (bare (facts_of f)) cred ≡ read_dir_row f cred
   pub existing : (set : Sattr) (cred : Cred) (f : File) → existing_checks (bare (facts_of f)) set cred ≡ existing_checks f set cred
+  pub link : (taken : Bool) (f : File) → link_row (bare (facts_of f)) taken ≡ link_row f taken
+  pub over : (is_dir in_use : Bool) (f : File) → over_row is_dir (bare (facts_of f)) in_use ≡ over_row is_dir f in_use

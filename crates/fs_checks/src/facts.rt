@@ -4,6 +4,7 @@ ghost use Rattle.fs_rules.specs.declared.file.File.{File as AFile};
 ghost use Rattle.fs_rules.specs.Access.{may};
 ghost use Rattle.fs_rules.specs.Attributes.{is_set, chosen, mode_bits, resized_content, with_attributes, mtime_after, atime_after};
 ghost use Rattle.fs_rules.specs.Making.{new_file, new_uid, new_gid};
+ghost use Rattle.fs_rules.specs.File.{is_directory};
 ghost use Rattle.fs_checks.specs.Facts.{facts_of, facts_by, file_with, bare, nothing_of};
 
 use crate::kind::Kind;
@@ -186,6 +187,13 @@ impl Facts {
         } else {
             self.mtime
         }
+    }
+
+    /// Whether the file is a directory.
+    pub fn is_directory(&self) -> bool
+        ensures { result ≡ is_directory (bare self.now).content }
+    {
+        matches!(self.kind, Kind::Directory)
     }
 
     /// Whether the caller may do all that `bits` say with the file (`docs/FORMATS.md`, "The rules of the

@@ -10,7 +10,7 @@ use Rattle.fs_rules.specs.declared.plain_tree.PlainTree.{PlainTree}
 use Rattle.fs_rules.specs.Handle.{number_in}
 use Rattle.fs_rules.specs.Statuses.{Check, first_failure, stale}
 use Rattle.fs_rules.specs.Arguments.{file_of}
-use Rattle.fs_tree.specs.Steps.{unless, answer_about}
+use Rattle.fs_tree.specs.Reading.{unless, answer_about}
 
 module _ (t : PlainTree) (name : List ℕ) (checks : ℕ → File → List Check) (answer : ℕ → File → Answer) (f : File) (there : file_of t name ≡ Some f) where
   about : answer_about t name checks answer ≡ unless (first_failure (checks (number_in name) f)) (answer (number_in name) f)

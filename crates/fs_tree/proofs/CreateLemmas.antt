@@ -26,10 +26,11 @@ use Rattle.fs_rules.specs.Edits.{Edit, Changed, Made, changed_at, edited, first_
 use Rattle.fs_rules.specs.Making.{new_number, size_alone, create_checks, create_checks_by, create_edits, create_edits_by, existing_checks, existing_edits, new_checks, new_regular, with_name}
 use Rattle.fs_rules.specs.Reading.{found_at}
 use Rattle.fs_rules.specs.Respond.{Responded, own_checks, edits_of, answer_of, decided, respond, checks}
-use Rattle.fs_tree.specs.Steps.{refused, named, named_row}
-use Rattle.fs_tree.specs.Makes.{existing_of, found_by, taking}
-use Rattle.fs_tree.proofs.RespondLemmas.{behind_none, before_some, named_there}
-use Rattle.fs_tree.proofs.ChangeLemmas.{arguments_fail, check_fails}
+use Rattle.fs_decisions.specs.Steps.{refused, named, named_row}
+use Rattle.fs_tree.specs.Creating.{existing_of, found_by}
+use Rattle.fs_edits.specs.Giving.{receiving}
+use Rattle.fs_decisions.proofs.RowLemmas.{behind_none, before_some, named_there}
+use Rattle.fs_decisions.proofs.ChangeLemmas.{arguments_fail, check_fails}
 use Rattle.fs_tree.specs.NewFiles.{Makes, regular_of}
 use Rattle.fs_tree.proofs.MadeLemmas.{still_named, looked_up_found}
 use Rattle.fs_tree.proofs.NewNameLemmas.{row_directory}
@@ -182,8 +183,8 @@ unfolding none
 regular_small set = omega (arith, no_blocks)
 
 -- a directory with no link more
-none_more : (now : Stamp) (name : List ℕ) (m : ℕ) (d : File) → taking now name m (d.links + 0) d ≡ with_name now name m d
-none_more now name m d = ap (λ (l : ℕ). taking now name m l d) (let same : d.links + 0 ≡ d.links = omega arith in same)
+none_more : (now : Stamp) (name : List ℕ) (m : ℕ) (d : File) → receiving now name m (d.links + 0) d ≡ with_name now name m d
+none_more now name m d = ap (λ (l : ℕ). receiving now name m l d) (let same : d.links + 0 ≡ d.links = omega arith in same)
 
 module _ (t : PlainTree) (dir : Handle) (name : List ℕ) (set : Sattr) (cred : Cred) (now : Stamp) (d : File) (there : file_of t dir.0 ≡ Some d)
     (row : first_failure (named_row t cred (named dir.0 name acces)) ≡ None) (plain : is_dots name ≡ false) (absent : file_named (slots_of d.content) name ≡ None)

@@ -20,11 +20,13 @@ use Rattle.fs_rules.specs.Respond.{Responded}
 use Rattle.fs_tree.specs.declared.response.Response.{Response}
 use Rattle.fs_tree.specs.declared.response.Change.{Change}
 use Rattle.fs_tree.specs.Meets.{Meets}
-use Rattle.fs_tree.specs.Steps.{refused, change_limits}
-use Rattle.fs_tree.specs.Makes.{existing_of, found_by, found_of}
-use Rattle.fs_tree.proofs.RespondLemmas.{behind_none, before_some, no_limits}
-use Rattle.fs_tree.proofs.ChangeLemmas.{limits_of_change, put_there}
-use Rattle.fs_tree.proofs.SetAttrLemmas.{limited, set_attr_change}
+use Rattle.fs_decisions.specs.Steps.{refused}
+use Rattle.fs_decisions.specs.Limits.{change_limits}
+use Rattle.fs_tree.specs.Creating.{existing_of, found_by, found_of}
+use Rattle.fs_decisions.proofs.RowLemmas.{behind_none, before_some, no_limits}
+use Rattle.fs_decisions.proofs.ChangeLemmas.{limits_of_change}
+use Rattle.fs_edits.proofs.PutLemmas.{put_there}
+use Rattle.fs_decisions.proofs.SetAttrLemmas.{limited, set_attr_change}
 
 module _ (t : PlainTree) (m : ℕ) (set : Sattr) (cred : Cred) (now : Stamp) (start : ℕ) where
   pub existing_absent : get t.files m ≡ None → existing_of t m set cred now start ≡ refused t stale

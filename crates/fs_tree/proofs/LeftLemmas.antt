@@ -10,9 +10,9 @@ use Rattle.fs_rules.specs.Respond.{respond, HasBytes, IsTold}
 use Rattle.fs_laws.proofs.GoodLemmas.{good_stays_good}
 use Rattle.fs_laws.proofs.ToldLemmas.{answers_can_be_told}
 use Rattle.fs_tree.specs.declared.response.Response.{Response}
-use Rattle.fs_tree.specs.Given.{is_given, AllAreGiven}
+use Rattle.fs_decisions.specs.Given.{is_given, AllAreGiven}
 use Rattle.fs_tree.specs.Meets.{Meets, made_by}
-use Rattle.fs_tree.proofs.GivenLemmas.{given_stays, made_given}
+use Rattle.fs_decisions.proofs.GivenLemmas.{given_stays, made_given}
 use Rattle.fs_tree.proofs.MeetsLemmas.{made_is}
 
 module _ (old new : PlainTree) (call : Call) (cred : Cred) (now : Stamp) (start : ℕ) (response : Response) (meets : Meets old (respond old call cred now start) new response) where

@@ -27,9 +27,10 @@ use Rattle.std.proofs.lemmas.Bool.{or_parts}
 use Rattle.fs_tree.specs.declared.response.Response.{Response}
 use Rattle.fs_tree.specs.declared.response.Change.{Change}
 use Rattle.fs_tree.specs.Meets.{Meets}
-use Rattle.fs_tree.specs.Steps.{refused}
-use Rattle.fs_tree.specs.Makes.{made_limits, found_of}
-use Rattle.fs_tree.proofs.ChangeLemmas.{limit_fails, all_pass}
+use Rattle.fs_decisions.specs.Steps.{refused}
+use Rattle.fs_decisions.specs.Limits.{made_limits}
+use Rattle.fs_tree.specs.Creating.{found_of}
+use Rattle.fs_decisions.proofs.ChangeLemmas.{limit_fails, all_pass}
 use Rattle.fs_tree.proofs.MakeLimitLemmas.{IsMade, limits_of_made, first_pick}
 
 -- ---- what the limits decide

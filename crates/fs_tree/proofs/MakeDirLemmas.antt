@@ -17,10 +17,10 @@ use Rattle.fs_rules.specs.Statuses.{first_failure, acces, exist}
 use Rattle.fs_rules.specs.Arguments.{file_of, argument_checks, is_dots}
 use Rattle.fs_rules.specs.Making.{new_number, make_dir_checks, make_dir_edits, new_directory}
 use Rattle.fs_rules.specs.Respond.{respond, own_checks, edits_of}
-use Rattle.fs_tree.specs.Steps.{refused, named, named_row}
+use Rattle.fs_decisions.specs.Steps.{refused, named, named_row}
 use Rattle.fs_tree.specs.NewFiles.{Makes, made_edits, directory_of}
 use Rattle.fs_tree.proofs.ToldLemmas.{told_new}
-use Rattle.fs_tree.proofs.ChangeLemmas.{arguments_fail, check_fails}
+use Rattle.fs_decisions.proofs.ChangeLemmas.{arguments_fail, check_fails}
 use Rattle.fs_tree.proofs.NewNameLemmas.{row_directory}
 
 -- ---- the call

@@ -18,8 +18,8 @@ use Rattle.fs_rules.specs.Numbers.{number_of, IsNumber, is_free, kept_at, number
 use Rattle.fs_rules.specs.Statuses.{first_failure, fbig, nospc}
 use Rattle.fs_rules.specs.Edits.{Changed, Made, limits, rise, used_at}
 use Rattle.fs_laws.proofs.NumberLemmas.{IsFreeNumber, first_free_holds}
-use Rattle.fs_tree.specs.Makes.{is_number, is_pick, used_by, made_limits}
-use Rattle.fs_tree.proofs.NumberLemmas.{find_behind, one_number, one_node}
+use Rattle.fs_decisions.specs.Limits.{is_number, is_pick, used_by, made_limits}
+use Rattle.fs_decisions.proofs.NumberLemmas.{find_behind, one_number, one_node}
 
 -- ---- where no number is free
 

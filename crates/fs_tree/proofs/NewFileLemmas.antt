@@ -20,8 +20,10 @@ use Rattle.fs_rules.specs.Respond.{respond, IsPick}
 use Rattle.fs_tree.specs.declared.new_file.NewFile.{NewFile}
 use Rattle.fs_tree.specs.declared.response.Response.{Response}
 use Rattle.fs_tree.specs.Meets.{Meets}
-use Rattle.fs_tree.specs.Steps.{Fits, refused}
-use Rattle.fs_tree.specs.Makes.{made_limits, taking, found_of, used_by}
+use Rattle.fs_decisions.specs.Steps.{Fits, refused}
+use Rattle.fs_decisions.specs.Limits.{made_limits, used_by}
+use Rattle.fs_edits.specs.Giving.{receiving}
+use Rattle.fs_tree.specs.Creating.{found_of}
 use Rattle.fs_tree.specs.NewFiles.{Makes, made_with, made_edits}
 use Rattle.fs_tree.proofs.MadeLemmas.{IsMaking, made_refused, made_passes, meets_made}
 use Rattle.fs_tree.proofs.NewNameLemmas.{slots_with, used_with}
@@ -51,7 +53,7 @@ is_one t n d x there is live = ap (λ (o : Option File). option_map_or (λ f. is
 module _ (t : PlainTree) (call : Call) (cred : Cred) (now : Stamp) (n : ℕ) (d : File) (name : List ℕ) (new : NewFile) (k : Makes t call cred now n d name new) (good : IsGood t)
     (there : get t.files n ≡ Some d) (is : is_directory d.content ≡ true) (slots : ℕ)
     (slots_are : (m : ℕ) → length (put_name (slots_of d.content) (record { name = name; file = m })) ≡ slots) (start : ℕ) (pick : Option ℕ) (picked : IsPick t call cred now start pick) where
-  making : IsMaking t call cred now start n d (λ m. taking now name m (d.links + new.gained) d) (λ m. made_with (kept_at t m) now cred new) (d.links + new.gained) slots (used new.content) pick
+  making : IsMaking t call cred now start n d (λ m. receiving now name m (d.links + new.gained) d) (λ m. made_with (kept_at t m) now cred new) (d.links + new.gained) slots (used new.content) pick
   making = record {
     arguments = k.arguments;
     own = k.own;
@@ -71,7 +73,7 @@ module _ (t : PlainTree) (call : Call) (cred : Cred) (now : Stamp) (n : ℕ) (d 
   -- a limit forbids it
   pub new_limited : (status : ℕ) → made_limits t d (d.links + new.gained) slots (used new.content) pick ≡ Some status → respond t call cred now start ≡ refused t status
   new_limited =
-      made_refused t call cred now start n d (λ m. taking now name m (d.links + new.gained) d) (λ m. made_with (kept_at t m) now cred new) (d.links + new.gained) slots (used new.content) pick making
+      made_refused t call cred now start n d (λ m. receiving now name m (d.links + new.gained) d) (λ m. made_with (kept_at t m) now cred new) (d.links + new.gained) slots (used new.content) pick making
 
   -- the file is made
   pub new_meets : (m : ℕ) (left : PlainTree) (file : File) (response : Response) → get t.files m ≡ None → pick ≡ Some m
@@ -79,8 +81,8 @@ module _ (t : PlainTree) (call : Call) (cred : Cred) (now : Stamp) (n : ℕ) (d 
       → response.answer ≡ cond new.is_told (found_of m file) Plain → response.change ≡ Some (record { made = Some (m, file.generation) })
       → Meets t (respond t call cred now start) left response
   new_meets m left file response dead is_pick limits file_is tree answer change =
-      meets_made now t n m (taking now name m (d.links + new.gained) d) (made_with (kept_at t m) now cred new) left call (respond t call cred now start) response dead
-      (made_passes t call cred now start n d (λ m. taking now name m (d.links + new.gained) d) (λ m. made_with (kept_at t m) now cred new) (d.links + new.gained) slots (used new.content) pick making m is_pick limits)
+      meets_made now t n m (receiving now name m (d.links + new.gained) d) (made_with (kept_at t m) now cred new) left call (respond t call cred now start) response dead
+      (made_passes t call cred now start n d (λ m. receiving now name m (d.links + new.gained) d) (λ m. made_with (kept_at t m) now cred new) (d.links + new.gained) slots (used new.content) pick making m is_pick limits)
       (k.answers m dead ∙ sym (answer ∙ ap (λ (f : File). cond new.is_told (found_of m f) Plain) file_is))
       tree
       (change ∙ ap (λ (g : File). Some (record { made = Some (m, g.generation) })) file_is)

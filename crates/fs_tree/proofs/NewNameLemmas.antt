@@ -22,9 +22,10 @@ use Rattle.fs_laws.proofs.WholeLemmas.{whole_from_good, some_of}
 use Rattle.fs_laws.proofs.DirLemmas.{dir_content, dir_list}
 use Rattle.fs_laws.proofs.LinkLemmas.{named_file_of}
 use Rattle.fs_content.proofs.SlotLemmas.{put_there, put_added}
-use Rattle.fs_tree.specs.Steps.{named_row, directory_row}
-use Rattle.fs_tree.specs.Makes.{used_by}
-use Rattle.fs_tree.proofs.DirectoryLemmas.{named_there}
+use Rattle.fs_decisions.specs.Steps.{named_row}
+use Rattle.fs_checks.specs.Rows.{directory_row}
+use Rattle.fs_decisions.specs.Limits.{used_by}
+use Rattle.fs_decisions.proofs.DirectoryLemmas.{named_there}
 
 -- ---- the name that was put
 

@@ -17,10 +17,10 @@ use Rattle.fs_rules.specs.Arguments.{file_of, argument_checks, is_dots}
 use Rattle.fs_rules.specs.Edits.{Changed, Made}
 use Rattle.fs_rules.specs.Making.{with_name, new_number, sym_link_checks, sym_link_edits, new_link}
 use Rattle.fs_rules.specs.Respond.{respond, own_checks, edits_of}
-use Rattle.fs_tree.specs.Steps.{refused, named, named_row}
-use Rattle.fs_tree.specs.Makes.{taking}
+use Rattle.fs_decisions.specs.Steps.{refused, named, named_row}
+use Rattle.fs_edits.specs.Giving.{receiving}
 use Rattle.fs_tree.specs.NewFiles.{Makes, link_of}
-use Rattle.fs_tree.proofs.ChangeLemmas.{arguments_fail, check_fails}
+use Rattle.fs_decisions.proofs.ChangeLemmas.{arguments_fail, check_fails}
 
 -- ---- the call
 
@@ -72,8 +72,8 @@ module _ (t : PlainTree) (dir : Handle) (name path : List ℕ) (set : Sattr) (cr
       sym_link_own = own ∙ ap (λ (b : Bool). cond b (Some exist) (cond (length path == 0) (Some noent) None)) free ∙ ap (λ (b : Bool). cond b (Some noent) None) some
 
 -- a directory with no link more
-none_more : (now : Stamp) (name : List ℕ) (m : ℕ) (d : File) → taking now name m (d.links + 0) d ≡ with_name now name m d
-none_more now name m d = ap (λ (l : ℕ). taking now name m l d) (let same : d.links + 0 ≡ d.links = omega arith in same)
+none_more : (now : Stamp) (name : List ℕ) (m : ℕ) (d : File) → receiving now name m (d.links + 0) d ≡ with_name now name m d
+none_more now name m d = ap (λ (l : ℕ). receiving now name m l d) (let same : d.links + 0 ≡ d.links = omega arith in same)
 
 -- SYMLINK makes it
 pub sym_link_makes : (t : PlainTree) (dir : Handle) (name path : List ℕ) (set : Sattr) (cred : Cred) (now : Stamp) (d : File) → file_of t dir.0 ≡ Some d

@@ -15,9 +15,10 @@ use Rattle.fs_rules.specs.Slots.{file_named, put_name}
 use Rattle.fs_rules.specs.Statuses.{stale}
 use Rattle.fs_rules.specs.Arguments.{file_of, at_file, is_dots}
 use Rattle.fs_rules.specs.Edits.{Changed, Made, changed_at, edited}
-use Rattle.fs_tree.specs.Makes.{taking, found_of}
-use Rattle.fs_tree.proofs.RespondLemmas.{named_there}
-use Rattle.fs_tree.proofs.MakingLemmas.{apart}
+use Rattle.fs_edits.specs.Giving.{receiving}
+use Rattle.fs_tree.specs.Creating.{found_of}
+use Rattle.fs_decisions.proofs.RowLemmas.{named_there}
+use Rattle.fs_edits.proofs.MakingLemmas.{apart}
 use Rattle.fs_tree.proofs.MadeLemmas.{still_named, looked_up_found, changed_there, made_found}
 use Rattle.fs_tree.proofs.NewNameLemmas.{slots_with, put_named}
 
@@ -25,7 +26,7 @@ use Rattle.fs_tree.proofs.NewNameLemmas.{slots_with, put_named}
 module _ (t : PlainTree) (dir : Handle) (name : List ℕ) (cred : Cred) (now : Stamp) (d : File) (m : ℕ) (there : file_of t dir.0 ≡ Some d) (plain : is_dots name ≡ false)
     (absent : file_named (slots_of d.content) name ≡ None) (of_directory : is_directory d.content ≡ true) (dead : get t.files m ≡ None) (links : ℕ) (f : File) where
   abbrev d' : File
-  d' = taking now name m links d
+  d' = receiving now name m links d
 
   abbrev u : PlainTree
   u = edited now t (Changed (number_in dir.0) d' ∷ Made m f ∷ [])

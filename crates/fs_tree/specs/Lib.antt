@@ -4,12 +4,8 @@ pub use Rattle.fs_rules.specs.Good
 pub use Rattle.fs_rules.specs.Fresh
 pub use Rattle.fs_rules.specs.Respond
 pub use Rattle.fs_listing.specs.Listing
-pub mod Steps
-pub mod Taking
-pub mod Removing
-pub mod Linking
+pub use Rattle.fs_decisions.specs.Given
+pub mod Reading
 pub mod Meets
-pub mod Makes
+pub mod Creating
 pub mod NewFiles
-pub mod Moving
-pub mod Given

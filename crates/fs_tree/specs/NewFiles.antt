@@ -19,7 +19,8 @@ use Rattle.fs_rules.specs.Edits.{Edit, Changed, Made, edited}
 use Rattle.fs_rules.specs.Making.{new_file, new_number, unset}
 use Rattle.fs_rules.specs.Respond.{own_checks, edits_of, answer_of}
 use Rattle.fs_tree.specs.declared.new_file.NewFile.{NewFile}
-use Rattle.fs_tree.specs.Makes.{taking, found_of}
+use Rattle.fs_edits.specs.Giving.{receiving}
+use Rattle.fs_tree.specs.Creating.{found_of}
 
 -- the file, at a number that keeps this
 abbrev pub made_with : Kept → Stamp → Cred → NewFile → File
@@ -27,7 +28,7 @@ made_with kept now cred new = new_file kept now new.set cred new.mode new.links 
 
 -- what is changed where its number is m and its directory is d
 abbrev pub made_edits : PlainTree → Cred → Stamp → ℕ → File → List ℕ → NewFile → ℕ → List Edit
-made_edits t cred now n d name new m = Changed n (taking now name m (d.links + new.gained) d) ∷ Made m (made_with (kept_at t m) now cred new) ∷ []
+made_edits t cred now n d name new m = Changed n (receiving now name m (d.links + new.gained) d) ∷ Made m (made_with (kept_at t m) now cred new) ∷ []
 
 -- the checks of a call pass, and it makes the file in the directory d
 pub record Makes (t : PlainTree) (call : Call) (cred : Cred) (now : Stamp) (n : ℕ) (d : File) (name : List ℕ) (new : NewFile) : Type 0 where

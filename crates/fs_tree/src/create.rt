@@ -1,20 +1,19 @@
-ghost use Rattle.std.specs.Prelude.{◌≡◌, ℕ, ◌-◌, ◌^◌, ◌<◌, IfOk, OnErr};
+ghost use Rattle.std.specs.Prelude.{◌≡◌, ℕ, ◌-◌, ◌<◌, IfOk, OnErr};
 ghost use Rattle.std.specs.FinMap as map;
 ghost use Rattle.nfs_proto.specs.declared.call.Call.TheVariants.{Create};
 ghost use Rattle.fs_rules.specs.Good.{IsGood};
 ghost use Rattle.fs_rules.specs.Respond.{respond, IsPick};
-ghost use Rattle.fs_tree.specs.Makes.{existing_of};
+ghost use Rattle.fs_tree.specs.Creating.{existing_of};
 ghost use Rattle.fs_tree.specs.Meets.{Meets};
 ghost use Rattle.fs_tree.specs.NewFiles.{regular_of};
 
-use crate::change::{check_limits, placeholder, put_file};
-use crate::directory::directory_of;
-use crate::live::file_at;
-use crate::lookup::{found_at, number_named};
+use crate::change::put_file;
+use crate::lookup::found_at;
 use crate::new_file::{NewFile, make_new};
 use crate::response::{Change, Response};
-use crate::set_attr::with_attributes;
 use fs_checks::{Facts, Status, check_new, chosen, is_dots, is_set, size_alone};
+use fs_decisions::{check_limits, directory_of, file_at, number_named};
+use fs_edits::{take_out, with_attributes};
 use fs_rules::{Blocks, Content, Cred, Handle, NoMemory, PlainTree, Sattr, Stamp, number_at};
 use std::alloc::Global;
 
@@ -94,9 +93,7 @@ fn set_size(
     if let Err(status) = check_limits(tree, file.change, 0) {
         return Response::refused(status);
     }
-    let Some(file) = tree.files.replace(number, placeholder(alloc)) else {
-        return Response::refused(Status::STALE);
-    };
+    let file = take_out(alloc, tree, number);
     let file = with_attributes(alloc, file, size_alone(set), now);
     let generation = file.generation;
     let attr = put_file(tree, number, file, now);

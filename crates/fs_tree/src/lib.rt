@@ -7,35 +7,20 @@
 #![tactic(auto)]
 
 mod call_bytes;
-mod chain;
 mod change;
 mod create;
-mod decision;
-mod directory;
-mod give;
-mod given;
-mod limits;
 mod link;
-mod live;
 mod lookup;
-mod make;
 mod make_dir;
-mod moving;
 mod new_file;
-mod numbers;
-mod plan;
-mod planning;
 mod procedures;
 mod read;
 mod remove;
-mod remove_dir;
 mod rename;
-mod replaced;
 mod response;
 mod set_attr;
 mod space;
 mod sym_link;
-mod take;
 mod tree;
 mod write;
 

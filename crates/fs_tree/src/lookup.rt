@@ -1,15 +1,14 @@
-ghost use Rattle.std.specs.Prelude.{◌≡◌, ◌≤◌, length, ◌||◌, Some, None, is_some, IfOk, IfErr, OnOk};
+ghost use Rattle.std.specs.Prelude.{◌≡◌, ◌≤◌, length, Some, None, IfOk, IfErr, OnOk};
 ghost use Rattle.fs_rules.specs.Good.{IsGood};
 ghost use Rattle.fs_rules.specs.File.{parent_of, slots_of};
-ghost use Rattle.fs_rules.specs.Slots.{file_named};
 ghost use Rattle.fs_rules.specs.Statuses.{first_failure};
-ghost use Rattle.fs_rules.specs.Arguments.{is_dots};
 ghost use Rattle.fs_rules.specs.Reading.{found_at, target, lookup_answer, read_dir_answer};
-ghost use Rattle.fs_tree.specs.Steps.{answer_about, lookup_row, read_dir_row};
+ghost use Rattle.fs_tree.specs.Reading.{answer_about, lookup_row};
+ghost use Rattle.fs_checks.specs.Rows.{read_dir_row};
 
-use crate::live::{file_at, file_of};
-use fs_checks::{Facts, Status, is_dot, is_dot_dot, is_dots};
-use fs_content::{file_named, list_names};
+use fs_checks::{Facts, Status, is_dot, is_dot_dot};
+use fs_content::list_names;
+use fs_decisions::{file_at, file_of, number_named, parent_of};
 use fs_rules::{
     Answer, Content, Cred, File, Handle, NoMemory, PlainTree, SEARCH, Slots, handle_of, number_at,
 };
@@ -109,31 +108,4 @@ fn target(number: u32, dir: &File, name: &[u8]) -> Option<u32>
         return parent_of(&dir.content);
     }
     number_named(&dir.content, name)
-}
-
-/// The directory in which the name of a directory lies; another file has none.
-pub(crate) fn parent_of(content: &Content) -> Option<u32>
-    ensures { result ≡ parent_of content.now }
-{
-    match content {
-        Content::Directory { parent, .. } => Some(*parent),
-        _ => None,
-    }
-}
-
-/// The number that a name of a directory names; another file has no names.
-pub(crate) fn number_named(content: &Content, name: &[u8]) -> Option<u32>
-    ensures { result ≡ file_named (slots_of content.now) name.now }
-{
-    match content {
-        Content::Directory { slots, .. } => file_named(slots, name),
-        _ => None,
-    }
-}
-
-/// Whether no new file of a directory can get a name: it is "." or "..", or is there.
-pub(crate) fn is_taken(content: &Content, name: &[u8]) -> bool
-    ensures { result ≡ (is_dots name.now || is_some (file_named (slots_of content.now) name.now)) }
-{
-    is_dots(name) || number_named(content, name).is_some()
 }

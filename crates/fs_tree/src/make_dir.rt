@@ -5,11 +5,10 @@ ghost use Rattle.fs_rules.specs.Respond.{respond, IsPick};
 ghost use Rattle.fs_tree.specs.Meets.{Meets};
 ghost use Rattle.fs_tree.specs.NewFiles.{directory_of};
 
-use crate::directory::directory_of;
-use crate::lookup::is_taken;
 use crate::new_file::{NewFile, make_new};
 use crate::response::Response;
 use fs_checks::{Status, chosen};
+use fs_decisions::{directory_of, is_taken};
 use fs_rules::{Content, Cred, Handle, NoMemory, PlainTree, Sattr, Slots, Stamp, number_at};
 use std::alloc::Global;
 

@@ -6,14 +6,15 @@ ghost use Rattle.fs_rules.specs.declared.file.File.{File as AFile};
 ghost use Rattle.fs_rules.specs.File.{used, is_directory};
 ghost use Rattle.fs_rules.specs.Good.{IsGood};
 ghost use Rattle.fs_rules.specs.Respond.{respond, IsPick};
-ghost use Rattle.fs_tree.specs.Makes.{found_of};
+ghost use Rattle.fs_tree.specs.Creating.{found_of};
 ghost use Rattle.fs_tree.specs.Meets.{Meets};
 ghost use Rattle.fs_tree.specs.NewFiles.{Makes, made_with};
-ghost use Rattle.fs_tree.specs.Steps.{Fits};
+ghost use Rattle.fs_decisions.specs.Steps.{Fits};
 
-use crate::make::{kept_at, make, place_for, slots_with};
 use crate::response::{Change, Response};
 use fs_checks::{Facts, Kind, Status};
+use fs_decisions::{place_for, slots_with};
+use fs_edits::{kept_at, make_file};
 use fs_rules::{Answer, Content, Cred, File, Kept, NoMemory, PlainTree, Sattr, Stamp, handle_of};
 use std::alloc::Global;
 
@@ -80,7 +81,7 @@ pub(crate) fn make_new(
     let file = new.made(kept_at(tree, number), cred, now);
     let generation = file.generation;
     let answer = answer_of(is_told, number, &file);
-    make(alloc, tree, parent, name, links, number, file, now)?;
+    make_file(alloc, tree, parent, name, links, number, file, now)?;
     Ok(Response {
         answer,
         change: Some(Change {

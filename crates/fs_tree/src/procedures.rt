@@ -10,12 +10,12 @@ use crate::lookup::{lookup, read_dir};
 use crate::make_dir::make_dir;
 use crate::read::{get_attr, read, read_link, stat_fs};
 use crate::remove::remove;
-use crate::remove_dir::remove_dir;
 use crate::rename::rename;
 use crate::response::Response;
 use crate::set_attr::set_attr;
 use crate::sym_link::sym_link;
 use crate::write::write;
+use fs_checks::Removal;
 use fs_rules::{Answer, Call, Cred, NoMemory, PlainTree, Stamp};
 use std::alloc::Global;
 
@@ -80,8 +80,20 @@ pub(crate) fn carry_out(
         Call::Link { file, dir, name } => {
             link(alloc, tree, file, dir, name.as_slice(), cred, now)
         }
-        Call::Remove { dir, name } => remove(alloc, tree, dir, name.as_slice(), cred, now),
-        Call::RemoveDir { dir, name } => remove_dir(alloc, tree, dir, name.as_slice(), cred, now),
+        Call::Remove { dir, name } => {
+            remove(alloc, tree, Removal::File, dir, name.as_slice(), cred, now)
+        }
+        Call::RemoveDir { dir, name } => {
+            remove(
+                alloc,
+                tree,
+                Removal::Directory,
+                dir,
+                name.as_slice(),
+                cred,
+                now,
+            )
+        }
         Call::Rename {
             from,
             from_name,

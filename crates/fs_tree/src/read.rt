@@ -1,19 +1,17 @@
-ghost use Rattle.std.specs.Prelude.{◌≡◌, [], ◌∷◌, not, IfOk};
+ghost use Rattle.std.specs.Prelude.{◌≡◌, [], IfOk};
 ghost use Rattle.nfs_proto.specs.declared.answer.Answer.TheVariants.{Attr};
 ghost use Rattle.fs_rules.specs.Good.{IsGood};
 ghost use Rattle.fs_rules.specs.File.{fattr_of, blocks_of};
-ghost use Rattle.fs_rules.specs.Access.{may};
-ghost use Rattle.fs_rules.specs.Statuses.{fails_where, first_failure, notdir, acces};
-ghost use Rattle.fs_rules.specs.Arguments.{name_check, looked_up};
-ghost use Rattle.fs_rules.specs.Reading.{space_answer, read_checks, read_answer, read_link_checks, read_link_answer, read_dir_checks, read_dir_answer, target, lookup_checks, lookup_answer};
+ghost use Rattle.fs_rules.specs.Statuses.{first_failure};
+ghost use Rattle.fs_rules.specs.Reading.{space_answer, read_checks, read_answer, read_link_checks, read_link_answer};
 ghost use Rattle.fs_rules.specs.Contents.{part};
-ghost use Rattle.fs_tree.specs.Steps.{Fits, unless, answer_about};
+ghost use Rattle.fs_decisions.specs.Steps.{Fits};
+ghost use Rattle.fs_tree.specs.Reading.{unless, answer_about};
 
-use crate::limits::MAX_DATA_BYTES;
-use crate::live::file_of;
-use crate::space::space;
+use crate::space::{MAX_DATA_BYTES, space};
 use fs_checks::{Facts, Status};
 use fs_content::read_part;
+use fs_decisions::file_of;
 use fs_rules::{
     Answer, Blocks, Bytes, Content, Cred, File, Handle, NoMemory, PlainTree, number_at,
 };

@@ -4,10 +4,9 @@ ghost use Rattle.fs_rules.specs.Good.{IsGood};
 ghost use Rattle.fs_rules.specs.Respond.{respond};
 ghost use Rattle.fs_tree.specs.Meets.{Meets};
 
-use crate::decision::Decision;
-use crate::moving::carry_over;
-use crate::planning::decided;
-use crate::response::{Change, Response};
+use crate::response::Response;
+use fs_decisions::{Decision, decided};
+use fs_edits::carry_over;
 use fs_rules::{Answer, Cred, Handle, NoMemory, PlainTree, Stamp};
 use std::alloc::Global;
 
@@ -32,10 +31,7 @@ pub(crate) fn rename(
         Decision::Same => Ok(Response::told(Answer::Plain)),
         Decision::Moves(plan) => {
             carry_over(alloc, tree, plan, from_name, to_name, now)?;
-            Ok(Response {
-                answer: Answer::Plain,
-                change: Some(Change { made: None }),
-            })
+            Ok(Response::done())
         }
     }
 }

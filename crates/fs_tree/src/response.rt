@@ -1,5 +1,5 @@
 ghost use Rattle.std.specs.Prelude.{◌≡◌, None, Some};
-ghost use Rattle.nfs_proto.specs.declared.answer.Answer.TheVariants.{Fault, Found};
+ghost use Rattle.nfs_proto.specs.declared.answer.Answer.TheVariants.{Fault, Found, Plain};
 ghost use Rattle.fs_rules.specs.Handle.{handle};
 ghost use Rattle.fs_tree.specs.Meets.{made_by};
 
@@ -39,6 +39,17 @@ impl Response {
         ensures change { result.change ≡ None }
     {
         Response::told(Answer::Fault(status.0))
+    }
+
+    // A change of which no more is told than that it was made, and which makes no file.
+    pub(crate) fn done() -> Response
+        ensures answer { result.answer ≡ Plain }
+        ensures change { result.change ≡ Some (record { made = None }) }
+    {
+        Response {
+            answer: Answer::Plain,
+            change: Some(Change { made: None }),
+        }
     }
 
     // What is told of a file after a change, which made the file or did not.

@@ -1,10 +1,13 @@
-ghost use Rattle.std.specs.Prelude.{◌≡◌, ◌≤◌, ◌*◌};
+ghost use Rattle.std.specs.Prelude.{◌≡◌, ◌*◌};
 ghost use Rattle.fs_rules.specs.Good.{IsGood};
-ghost use Rattle.fs_rules.specs.Numbers.{used_in_all, free_blocks};
+ghost use Rattle.fs_rules.specs.Numbers.{free_blocks};
 ghost use Rattle.fs_rules.specs.Reading.{space_answer};
 
-use crate::limits::MAX_DATA_BYTES;
+use fs_decisions::free_blocks;
 use fs_rules::{Answer, BLOCK_BYTES, PlainTree};
+
+/// The most data of a READ or a WRITE, in bytes (RFC 1094, section 2.3.1).
+pub(crate) const MAX_DATA_BYTES: u32 = 8_192;
 
 /// What STATFS tells of the file system (RFC 1094, section 2.2.18).
 #[tactic(auto, unfolding(fs_rules::specs::Reading::space_answer))]
@@ -20,21 +23,4 @@ pub(crate) fn space(tree: &PlainTree) -> Answer
         bfree: free,
         bavail: free,
     }
-}
-
-/// How many blocks no file uses.
-pub(crate) fn free_blocks(tree: &PlainTree) -> u32
-    requires { IsGood tree.now }
-    ensures { result ≡ free_blocks tree.now }
-{
-    tree.geometry.memories * tree.geometry.blocks - used_in_all(tree)
-}
-
-// How many blocks all files use, which are no more than there are.
-fn used_in_all(tree: &PlainTree) -> u32
-    requires { IsGood tree.now }
-    ensures sum { result ≡ used_in_all tree.now }
-    ensures fits { result ≤ tree.now.geometry.memories * tree.now.geometry.blocks }
-{
-    tree.files.used() as u32
 }

@@ -6,12 +6,11 @@ ghost use Rattle.fs_rules.specs.Respond.{respond, IsPick};
 ghost use Rattle.fs_tree.specs.Meets.{Meets};
 ghost use Rattle.fs_tree.specs.NewFiles.{link_of};
 
-use crate::directory::directory_of;
-use crate::lookup::is_taken;
 use crate::new_file::{NewFile, make_new};
 use crate::response::Response;
 use fs_checks::{Status, nothing_set};
 use fs_content::write_bytes;
+use fs_decisions::{directory_of, is_taken};
 use fs_rules::{Blocks, Content, Cred, Handle, NoMemory, PlainTree, Stamp, number_at};
 use std::alloc::Global;
 

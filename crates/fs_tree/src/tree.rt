@@ -9,10 +9,9 @@ ghost use Rattle.fs_listing.specs.Listing.{listing};
 ghost use Rattle.fs_tree.specs.Meets.{Meets};
 
 use crate::call_bytes::call_bytes;
-use crate::given::GivenNumbers;
-use crate::numbers::first_free;
 use crate::procedures::carry_out;
 use crate::response::Response;
+use fs_decisions::{GivenNumbers, first_free};
 use fs_listing::{Listing, listing};
 use fs_rules::{
     Answer, Call, Content, Cred, File, Files, Geometry, NoMemory, PlainTree, ROOT, Slots, Stamp,
@@ -34,7 +33,7 @@ impl Model for Tree {
     ghost use Rattle.fs_rules.specs.declared.plain_tree.PlainTree.{PlainTree as Plain};
     ghost use Rattle.fs_rules.specs.Good.{IsGood};
     ghost use Rattle.fs_rules.specs.contracts.plain_tree.PlainTree.{the_row};
-    ghost use Rattle.fs_tree.specs.Given.{AllAreGiven};
+    ghost use Rattle.fs_decisions.specs.Given.{AllAreGiven};
 
     ghost Value = { Plain };
 

@@ -1,4 +1,4 @@
-use Rattle.fs_checks.proofs.FactsLemmas.{set_attr_looks, existing_looks, read_looks, write_looks, named_looks, pair_looks, list_looks, may_looks}
+use Rattle.fs_checks.proofs.FactsLemmas.{set_attr_looks, existing_looks, read_looks, write_looks, named_looks, pair_looks, list_looks, may_looks, link_looks, over_looks}
 use Rattle.fs_checks.proofs.laws.checks_look_at_facts.Goals as goal
 
 pub returns : goal.returns
@@ -12,4 +12,6 @@ returns c =
       pair = pair_looks;
       list = list_looks;
       existing = existing_looks;
+      link = link_looks;
+      over = over_looks;
     }

@@ -3,8 +3,8 @@ use Rattle.nfs_proto.specs.declared.call.Call.TheVariants.{Link}
 use Rattle.fs_rules.specs.Handle.{number_in}
 use Rattle.fs_rules.specs.Edits.{Changed, edited}
 use Rattle.fs_rules.specs.Making.{with_name, linked}
-use Rattle.fs_tree.specs.Linking.{CanGive}
-use Rattle.fs_tree.proofs.TakeLemmas.{meets_two}
+use Rattle.fs_edits.specs.Giving.{CanGive}
+use Rattle.fs_tree.proofs.TakenLemmas.{meets_two}
 use Rattle.fs_tree.proofs.link.link.Goals as goal
 
 pub give_one-requires : goal.give_one-requires
@@ -34,4 +34,4 @@ returns-clause-meets c start =
     ∙ ap (λ (k : ℕ). edited now t (Changed k (with_name now name c.number_at-linked.result r.d) ∷ Changed c.number_at-linked.result (linked r.f) ∷ [])) c.number_at.ensures
     ∙ ap (λ (k : ℕ). edited now t (Changed n (with_name now name k r.d) ∷ Changed k (linked r.f) ∷ [])) c.number_at-linked.ensures in
     meets_two t c.give_one.new.tree (Link c.args.file.now c.args.dir.now name) now n r.d (with_name now name m r.d) (Changed m (linked r.f)) _ _
-    r.gives.dir refl r.gives.apart refl r.answers (λ u. refl) left refl refl
+    r.gives.dir refl r.gives.apart refl r.answers (λ u. refl) left c.done.ensures.answer c.done.ensures.change

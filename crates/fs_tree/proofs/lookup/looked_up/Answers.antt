@@ -7,7 +7,7 @@ use Rattle.fs_rules.specs.Reading.{lookup_checks}
 use Rattle.fs_rules.specs.Statuses.{first_failure, fails_where, noent}
 use Rattle.fs_checks.specs.Rows.{directory_row}
 use Rattle.fs_checks.proofs.FactsLemmas.{named_looks, passed_of, failed_of}
-use Rattle.fs_tree.proofs.RespondLemmas.{behind_none, before_some}
+use Rattle.fs_decisions.proofs.RowLemmas.{behind_none, before_some}
 use Rattle.fs_tree.proofs.lookup.looked_up.Goals as goal
 
 pub returns-in_err-check_named-clause-fails : goal.returns-in_err-check_named-clause-fails

@@ -4,7 +4,7 @@ use Rattle.nfs_proto.specs.declared.answer.Answer.TheVariants.{Fault}
 use Rattle.fs_rules.specs.Arguments.{file_of}
 use Rattle.fs_rules.specs.Reading.{found_at, target, lookup_answer}
 use Rattle.fs_rules.specs.Statuses.{first_failure, noent}
-use Rattle.fs_tree.specs.Steps.{lookup_row}
+use Rattle.fs_tree.specs.Reading.{lookup_row}
 use Rattle.fs_tree.proofs.AboutLemmas.{about_refused, about_answered}
 use Rattle.fs_tree.proofs.lookup.lookup.Goals as goal
 

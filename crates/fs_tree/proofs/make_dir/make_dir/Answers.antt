@@ -6,9 +6,9 @@ use Rattle.fs_rules.specs.File.{used}
 use Rattle.fs_rules.specs.Statuses.{acces, exist}
 use Rattle.fs_tree.specs.declared.new_file.NewFile.{NewFile}
 use Rattle.fs_tree.specs.NewFiles.{Makes, directory_of}
-use Rattle.fs_tree.specs.Steps.{named}
-use Rattle.fs_tree.proofs.RespondLemmas.{named_there}
-use Rattle.fs_tree.proofs.ChangeLemmas.{meets_refused}
+use Rattle.fs_decisions.specs.Steps.{named}
+use Rattle.fs_decisions.proofs.RowLemmas.{named_there}
+use Rattle.fs_tree.proofs.ChangedLemmas.{meets_refused}
 use Rattle.fs_tree.proofs.NewNameLemmas.{row_directory}
 use Rattle.fs_tree.proofs.MakeDirLemmas.{make_dir_stopped, make_dir_taken, make_dir_makes}
 use Rattle.fs_tree.proofs.make_dir.make_dir.Goals as goal

@@ -5,10 +5,12 @@ use Rattle.fs_rules.specs.declared.kept.Kept.{Kept}
 use Rattle.fs_rules.specs.File.{used}
 use Rattle.fs_rules.specs.Edits.{Changed, Made, edited}
 use Rattle.fs_rules.specs.Numbers.{kept_at}
-use Rattle.fs_tree.specs.Makes.{is_pick, made_limits, taking}
+use Rattle.fs_decisions.specs.Limits.{is_pick, made_limits}
+use Rattle.fs_edits.specs.Giving.{receiving}
 use Rattle.fs_tree.specs.NewFiles.{Makes, made_with}
-use Rattle.fs_tree.specs.Steps.{Fits}
-use Rattle.fs_tree.proofs.ChangeLemmas.{meets_refused, one_file}
+use Rattle.fs_decisions.specs.Steps.{Fits}
+use Rattle.fs_tree.proofs.ChangedLemmas.{meets_refused}
+use Rattle.fs_edits.proofs.PutLemmas.{one_file}
 use Rattle.fs_tree.proofs.MakeLimitLemmas.{may_make, free_pick}
 use Rattle.fs_tree.proofs.NewNameLemmas.{few_slots}
 use Rattle.fs_tree.proofs.NewFileLemmas.{is_one, new_fits, new_limited, new_meets}
@@ -67,8 +69,8 @@ made-file-requires-clause-change c =
 pub answer_of-answer-requires : goal.answer_of-answer-requires
 answer_of-answer-requires c told = subst Fits (sym c.made-file.ensures) (new_fits c.kept_at.result c.args.now c.args.cred.now c.args.new (c.requires.small told))
 
-pub make-requires-clause-room : goal.make-requires-clause-room
-make-requires-clause-room c =
+pub make_file-requires-clause-room : goal.make_file-requires-clause-room
+make_file-requires-clause-room c =
     let t = c.args.tree.now in
     let n = c.args.parent in
     let d = c.in-Some.dir.now in
@@ -82,8 +84,8 @@ make-requires-clause-room c =
     let slots = c.slots_with-slots.ensures c.in-Ok.number is (few_slots t n d c.requires.good live is) in
     (d, record { there = live; is = is; change = k.rises; slots = subst (λ (n : ℕ). n ≤ 7650) slots may.few_slots })
 
-pub make-requires-clause-free : goal.make-requires-clause-free
-make-requires-clause-free c =
+pub make_file-requires-clause-free : goal.make_file-requires-clause-free
+make_file-requires-clause-free c =
     let t = c.args.tree.now in
     let n = c.args.parent in
     let d = c.in-Some.dir.now in
@@ -114,8 +116,8 @@ returns-clause-meets c call other there makes start picked =
     let file_is : c.made-file.result ≡ made_with (kept_at t m) c.args.now c.args.cred.now new =
     c.made-file.ensures ∙ ap (λ (k : Kept). made_with k c.args.now c.args.cred.now new) c.kept_at.ensures in
     new_meets t call c.args.cred.now c.args.now n d c.args.name.now new made c.requires.good live is c.slots_with-slots.result
-    (λ m. sym (c.slots_with-slots.ensures m is (few_slots t n d c.requires.good live is))) start c.args.pick picked m c.make.new.tree c.made-file.result _
+    (λ m. sym (c.slots_with-slots.ensures m is (few_slots t n d c.requires.good live is))) start c.args.pick picked m c.make_file.new.tree c.made-file.result _
     free.dead k.pick limits file_is
-    ((c.in_ok-make.ensures {u = tt}).ok d live
-    ∙ ap (λ (g : File). edited c.args.now t (Changed n (taking c.args.now c.args.name.now m (d.links + new.gained) d) ∷ Made m g ∷ [])) file_is)
+    ((c.in_ok-make_file.ensures {u = tt}).ok d live
+    ∙ ap (λ (g : File). edited c.args.now t (Changed n (receiving c.args.now c.args.name.now m (d.links + new.gained) d) ∷ Made m g ∷ [])) file_is)
     c.answer_of-answer.ensures refl

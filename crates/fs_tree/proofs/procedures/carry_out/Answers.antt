@@ -6,7 +6,7 @@ use Rattle.nfs_proto.specs.declared.call.Call.TheVariants.{Create, SymLink, Make
 use Rattle.nfs_proto.specs.Arguments.{IsFit}
 use Rattle.fs_rules.specs.Respond.{respond, IsPick}
 use Rattle.fs_rules.specs.Reading.{lookup_answer}
-use Rattle.fs_tree.specs.Steps.{answer_about, lookup_row}
+use Rattle.fs_tree.specs.Reading.{answer_about, lookup_row}
 use Rattle.fs_tree.specs.Meets.{Meets}
 use Rattle.fs_tree.proofs.RespondLemmas.{respond-get_attr, respond-stat_fs, respond-read_link, respond-read, respond-lookup, respond-read_dir}
 use Rattle.fs_tree.proofs.BuiltLemmas.{respond-nothing}

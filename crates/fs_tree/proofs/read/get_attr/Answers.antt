@@ -6,7 +6,7 @@ use Rattle.fs_rules.specs.Handle.{number_in}
 use Rattle.fs_rules.specs.File.{fattr_of}
 use Rattle.fs_rules.specs.Arguments.{file_of}
 use Rattle.fs_rules.specs.Statuses.{stale, first_failure}
-use Rattle.fs_tree.specs.Steps.{Fits}
+use Rattle.fs_decisions.specs.Steps.{Fits}
 use Rattle.fs_tree.proofs.read.get_attr.Goals as goal
 
 pub returns-in-Some : goal.returns-in-Some

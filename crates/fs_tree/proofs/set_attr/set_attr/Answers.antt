@@ -1,4 +1,4 @@
-use Rattle.std.proofs.Common.{◌≡◌, ◌-◌, ◌^◌, ◌<◌, Some, sym, ap, subst, ◌∙◌, refl, arith}
+use Rattle.std.proofs.Common.{◌≡◌, ℕ, ◌-◌, ◌^◌, ◌<◌, Some, sym, ap, subst, ◌∙◌, refl, arith}
 use Rattle.std.specs.Prelude.{IsSome}
 use Rattle.std.specs.FinMap.{FinMap, get}
 use Rattle.std.specs.Ordering.{nat_cmp}
@@ -9,11 +9,13 @@ use Rattle.fs_rules.specs.Handle.{number_in}
 use Rattle.fs_rules.specs.File.{fattr_of}
 use Rattle.fs_rules.specs.Arguments.{file_of}
 use Rattle.fs_rules.specs.Attributes.{with_attributes}
-use Rattle.fs_tree.specs.Steps.{Fits}
-use Rattle.fs_tree.proofs.RespondLemmas.{named_there}
-use Rattle.fs_tree.proofs.ChangeLemmas.{meets_refused, meets_changed, put_back, told_back, one_file, put_there}
+use Rattle.fs_decisions.specs.Steps.{Fits}
+use Rattle.fs_decisions.proofs.RowLemmas.{named_there}
+use Rattle.fs_tree.proofs.ChangedLemmas.{meets_refused, meets_changed, told_back}
+use Rattle.fs_edits.proofs.PutLemmas.{put_back, one_file, is_there, still_there}
+use Rattle.fs_edits.specs.Blank.{blank}
 use Rattle.fs_tree.proofs.MeetsLemmas.{meets_told}
-use Rattle.fs_tree.proofs.SetAttrLemmas.{set_attr_nothing, set_attr_passes, set_attr_fits, set_attr_change}
+use Rattle.fs_decisions.proofs.SetAttrLemmas.{set_attr_nothing, set_attr_passes, set_attr_fits, set_attr_change}
 use Rattle.fs_tree.proofs.set_attr.set_attr.Goals as goal
 
 pub returns-in-Err : goal.returns-in-Err
@@ -33,11 +35,11 @@ returns-then-not-sets_something c start =
     (c.told.ensures.answer ∙ ap Attr (told ∙ ap (λ n. fattr_of n f) c.number_at-number.ensures)) c.told.ensures.change
 
 -- the file that is taken out is the one that the handle names
-taken_out : (c : goal.After-with_attributes) → c.in-Some.file ≡ c.in-Ok.file.now
+taken_out : (c : goal.After-with_attributes) → c.take_out-file.result ≡ c.in-Ok.file.now
 taken_out c =
     let t = c.args.tree.now in
     let there : file_of t c.args.handle.now.0 ≡ Some c.in-Ok.file.now = (c.in-Ok.ensures {u = tt}).there in
-    one_file t c.number_at-number.result (number_in c.args.handle.now.0) c.in-Ok.file.now c.in-Some.file c.number_at-number.ensures (named_there t c.args.handle.now.0 c.in-Ok.file.now there) ((c.in-Some.ensures {u = tt}).before)
+    one_file t c.number_at-number.result (number_in c.args.handle.now.0) c.in-Ok.file.now c.take_out-file.result c.number_at-number.ensures (named_there t c.args.handle.now.0 c.in-Ok.file.now there) (sym c.take_out-file.ensures.file)
 
 -- so it is changed as the rules say
 changed_so : (c : goal.After-with_attributes) → c.with_attributes.result ≡ with_attributes c.args.now c.args.set.now c.in-Ok.file.now
@@ -55,10 +57,12 @@ put_changed-requires-clause-change c =
     ap (λ (f : File). f.change) (changed_so c) ∙ set_attr_change c.args.now c.args.set.now c.in-Ok.file.now in
     omega (arith, rises, same)
 
+pub take_out-file-requires : goal.take_out-file-requires
+take_out-file-requires c =
+    subst (λ (n : ℕ). IsSome (get c.args.tree.now.files n)) (sym c.number_at-number.ensures) (is_there c.args.tree.now (number_in c.args.handle.now.0) c.in-Ok.file.now (named_there c.args.tree.now c.args.handle.now.0 c.in-Ok.file.now ((c.in-Ok.ensures {u = tt}).there)))
+
 pub put_changed-requires-clause-there : goal.put_changed-requires-clause-there
-put_changed-requires-clause-there c =
-    let n = c.number_at-number.result in
-    subst (λ (m : FinMap nat_cmp File). IsSome (get m n)) (sym ((c.in-Some.ensures {u = tt}).some)) (subst IsSome (sym (put_there c.args.tree.now n c.placeholder.result)) refl)
+put_changed-requires-clause-there c = still_there c.args.tree.now c.take_out-file.new.tree c.number_at-number.result blank c.take_out-file.ensures.tree
 
 pub returns : goal.returns
 returns c start =
@@ -71,14 +75,13 @@ returns c start =
     let is : c.with_attributes.result ≡ g =
     c.with_attributes.ensures
     ∙ ap (with_attributes c.args.now c.args.set.now)
-    (one_file t n (number_in h.0) f c.in-Some.file c.number_at-number.ensures (named_there t h.0 f there) ((c.in-Some.ensures {u = tt}).before)) in
+    (one_file t n (number_in h.0) f c.take_out-file.result c.number_at-number.ensures (named_there t h.0 f there) (sym c.take_out-file.ensures.file)) in
     meets_changed t c.put_changed.new.tree (SetAttr h c.args.set.now) c.args.now (number_in h.0) f g _ c.put_changed.result
     (named_there t h.0 f there) (set_attr_change c.args.now c.args.set.now f)
     (set_attr_passes t h c.args.set.now c.args.cred.now c.args.now start f there
     ((c.in-Ok.ensures {u = tt}).checked) c.requires (sym c.sets_something.ensures ∙ c.if-not-sets_something.false)
     ((c.in-Ok.ensures {u = tt}).limits (sym c.sets_something.ensures ∙ c.if-not-sets_something.false)))
     (λ u. refl)
-    (put_back c.args.now t c.put_changed.new.tree n (number_in h.0) c.placeholder.result g c.with_attributes.result c.replace.new.self c.number_at-number.ensures
-    ((c.in-Some.ensures {u = tt}).some) is c.put_changed.ensures.tree)
+    (put_back c.args.now t c.take_out-file.new.tree c.put_changed.new.tree n (number_in h.0) blank g c.with_attributes.result c.number_at-number.ensures c.take_out-file.ensures.tree is c.put_changed.ensures.tree)
     (told_back c.args.now n (number_in h.0) g c.with_attributes.result c.put_changed.result.answer c.number_at-number.ensures is c.put_changed.ensures.answer)
     c.put_changed.ensures.change

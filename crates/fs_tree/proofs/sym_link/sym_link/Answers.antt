@@ -5,9 +5,9 @@ use Rattle.nfs_proto.specs.declared.call.Call.TheVariants.{SymLink}
 use Rattle.fs_rules.specs.Statuses.{acces, exist, noent}
 use Rattle.fs_tree.specs.declared.new_file.NewFile.{NewFile}
 use Rattle.fs_tree.specs.NewFiles.{Makes, link_of}
-use Rattle.fs_tree.specs.Steps.{named}
-use Rattle.fs_tree.proofs.RespondLemmas.{named_there}
-use Rattle.fs_tree.proofs.ChangeLemmas.{meets_refused}
+use Rattle.fs_decisions.specs.Steps.{named}
+use Rattle.fs_decisions.proofs.RowLemmas.{named_there}
+use Rattle.fs_tree.proofs.ChangedLemmas.{meets_refused}
 use Rattle.fs_tree.proofs.NewNameLemmas.{row_directory}
 use Rattle.fs_tree.proofs.SymLinkLemmas.{sym_link_stopped, sym_link_taken, sym_link_empty, sym_link_makes}
 use Rattle.fs_tree.proofs.sym_link.sym_link.Goals as goal

@@ -1,4 +1,4 @@
-use Rattle.std.proofs.Common.{◌≡◌, ◌-◌, ◌^◌, ◌<◌, true, false, Some, None, sym, ap, subst, ◌∙◌, refl, rules, arith}
+use Rattle.std.proofs.Common.{◌≡◌, ℕ, ◌-◌, ◌^◌, ◌<◌, true, false, Some, None, sym, ap, subst, ◌∙◌, refl, rules, arith}
 use Rattle.std.specs.Prelude.{IsSome}
 use Rattle.std.specs.Ordering.{nat_cmp}
 use Rattle.std.specs.FinMap.{FinMap, get, insert}
@@ -12,12 +12,15 @@ use Rattle.fs_rules.specs.File.{fattr_of}
 use Rattle.fs_rules.specs.Statuses.{first_failure}
 use Rattle.fs_rules.specs.Arguments.{file_of}
 use Rattle.fs_rules.specs.Writing.{is_nothing, write_checks, with_bytes}
-use Rattle.fs_tree.specs.Steps.{Fits, change_limits}
+use Rattle.fs_decisions.specs.Steps.{Fits}
+use Rattle.fs_decisions.specs.Limits.{change_limits}
 use Rattle.fs_checks.proofs.FactsLemmas.{passed as has_passed, failed}
-use Rattle.fs_tree.proofs.RespondLemmas.{named_there}
-use Rattle.fs_tree.proofs.ChangeLemmas.{meets_refused, meets_changed, put_back, told_back, one_file, put_there}
+use Rattle.fs_decisions.proofs.RowLemmas.{named_there}
+use Rattle.fs_tree.proofs.ChangedLemmas.{meets_refused, meets_changed, told_back}
+use Rattle.fs_edits.proofs.PutLemmas.{put_back, put_same, one_file, is_there, still_there}
+use Rattle.fs_edits.specs.Blank.{blank}
 use Rattle.fs_tree.proofs.MeetsLemmas.{meets_told}
-use Rattle.fs_tree.proofs.WriteLemmas.{so, writes_no_directory, writes_within, grown_within, write_change, write_fits, write_nothing, write_limited, write_passes}
+use Rattle.fs_decisions.proofs.WriteLemmas.{so, writes_no_directory, writes_within, grown_within, write_change, write_fits, write_nothing, write_limited, write_passes}
 use Rattle.fs_tree.proofs.write.write.Goals as goal
 
 pub returns-in-Err-clause-meets : goal.returns-in-Err-clause-meets
@@ -70,8 +73,8 @@ put_changed-requires-clause-fits c =
     let f = c.in-Ok.file.now in
     let there : file_of t h.0 ≡ Some f = (c.in-Ok.ensures {u = tt}).there in
     let regular = writes_no_directory f c.args.cred.now c.args.offset c.args.bytes.now ((c.in-Ok.ensures {u = tt}).checked) in
-    let same = one_file t c.number_at-number.result (number_in h.0) f c.in-Some.file c.number_at-number.ensures (named_there t h.0 f there) ((c.in-Some.ensures {u = tt}).before) in
-    let is = so c.args.now c.args.offset c.args.bytes.now f c.in-Some.file c.in-Ok-with_bytes.file same regular ((c.in-Ok-with_bytes.ensures {u = tt}).ok) in
+    let same = one_file t c.number_at-number.result (number_in h.0) f c.take_out-file.result c.number_at-number.ensures (named_there t h.0 f there) (sym c.take_out-file.ensures.file) in
+    let is = so c.args.now c.args.offset c.args.bytes.now f c.take_out-file.result c.in-Ok-with_bytes.file same regular ((c.in-Ok-with_bytes.ensures {u = tt}).ok) in
     let free = grown_within t f.change _ (ap (change_limits t f.change) (sym (c.rise.ensures regular)) ∙ has_passed (change_limits t f.change c.rise.result) c.check_limits.result _ c.check_limits.ensures.exact c.in_default.is) in
     subst Fits (sym is) (write_fits c.args.now c.args.offset c.args.bytes.now f t (number_in h.0) c.requires.good (named_there t h.0 f there) free)
 
@@ -82,16 +85,21 @@ put_changed-requires-clause-change c =
     let f = c.in-Ok.file.now in
     let there : file_of t h.0 ≡ Some f = (c.in-Ok.ensures {u = tt}).there in
     let regular = writes_no_directory f c.args.cred.now c.args.offset c.args.bytes.now ((c.in-Ok.ensures {u = tt}).checked) in
-    let before = one_file t c.number_at-number.result (number_in h.0) f c.in-Some.file c.number_at-number.ensures (named_there t h.0 f there) ((c.in-Some.ensures {u = tt}).before) in
-    let is = so c.args.now c.args.offset c.args.bytes.now f c.in-Some.file c.in-Ok-with_bytes.file before regular ((c.in-Ok-with_bytes.ensures {u = tt}).ok) in
+    let before = one_file t c.number_at-number.result (number_in h.0) f c.take_out-file.result c.number_at-number.ensures (named_there t h.0 f there) (sym c.take_out-file.ensures.file) in
+    let is = so c.args.now c.args.offset c.args.bytes.now f c.take_out-file.result c.in-Ok-with_bytes.file before regular ((c.in-Ok-with_bytes.ensures {u = tt}).ok) in
     let rises : f.change < 2 ^ 64 - 1 = (c.in_default.ensures {u = tt}).rises in
     let same : c.in-Ok-with_bytes.file.change ≡ f.change = ap (λ (f : File). f.change) is ∙ write_change c.args.now c.args.offset c.args.bytes.now f in
     omega (arith, rises, same)
 
+pub take_out-file-requires : goal.take_out-file-requires
+take_out-file-requires c =
+    subst (λ (n : ℕ). IsSome (get c.args.tree.now.files n)) (sym c.number_at-number.ensures) (is_there c.args.tree.now (number_in c.args.handle.now.0) c.in-Ok.file.now (named_there c.args.tree.now c.args.handle.now.0 c.in-Ok.file.now ((c.in-Ok.ensures {u = tt}).there)))
+
 pub put_changed-requires-clause-there : goal.put_changed-requires-clause-there
-put_changed-requires-clause-there c =
-    let n = c.number_at-number.result in
-    subst (λ (m : FinMap nat_cmp File). IsSome (get m n)) (sym ((c.in-Some.ensures {u = tt}).some)) (subst IsSome (sym (put_there c.args.tree.now n c.placeholder.result)) refl)
+put_changed-requires-clause-there c = still_there c.args.tree.now c.take_out-file.new.tree c.number_at-number.result blank c.take_out-file.ensures.tree
+
+pub put_back-requires : goal.put_back-requires
+put_back-requires c = still_there c.args.tree.now c.take_out-file.new.tree c.number_at-number.result blank c.take_out-file.ensures.tree
 
 pub returns-in-Ok-with_bytes-clause-meets : goal.returns-in-Ok-with_bytes-clause-meets
 returns-in-Ok-with_bytes-clause-meets c begin total start =
@@ -104,27 +112,18 @@ returns-in-Ok-with_bytes-clause-meets c begin total start =
     let some : is_nothing c.args.bytes.now ≡ false = search rules in
     let passed : first_failure (write_checks f c.args.cred.now c.args.offset c.args.bytes.now) ≡ None = (c.in-Ok.ensures {u = tt}).checked in
     let regular = writes_no_directory f c.args.cred.now c.args.offset c.args.bytes.now passed in
-    let same = one_file t n (number_in h.0) f c.in-Some.file c.number_at-number.ensures (named_there t h.0 f there) ((c.in-Some.ensures {u = tt}).before) in
-    let is = so c.args.now c.args.offset c.args.bytes.now f c.in-Some.file c.in-Ok-with_bytes.file same regular ((c.in-Ok-with_bytes.ensures {u = tt}).ok) in
+    let same = one_file t n (number_in h.0) f c.take_out-file.result c.number_at-number.ensures (named_there t h.0 f there) (sym c.take_out-file.ensures.file) in
+    let is = so c.args.now c.args.offset c.args.bytes.now f c.take_out-file.result c.in-Ok-with_bytes.file same regular ((c.in-Ok-with_bytes.ensures {u = tt}).ok) in
     meets_changed t c.put_changed.new.tree (Write h begin c.args.offset total c.args.bytes.now) c.args.now (number_in h.0) f g _ c.put_changed.result
     (named_there t h.0 f there) (write_change c.args.now c.args.offset c.args.bytes.now f)
     (write_passes t h begin c.args.offset total c.args.bytes.now c.args.cred.now c.args.now start f there passed c.requires.good some
     (ap (change_limits t f.change) (sym (c.rise.ensures regular)) ∙ has_passed (change_limits t f.change c.rise.result) c.check_limits.result _ c.check_limits.ensures.exact c.in_default.is))
     (λ u. refl)
-    (put_back c.args.now t c.put_changed.new.tree n (number_in h.0) c.placeholder.result g c.in-Ok-with_bytes.file c.replace.new.self c.number_at-number.ensures
-    ((c.in-Some.ensures {u = tt}).some) is c.put_changed.ensures.tree)
+    (put_back c.args.now t c.take_out-file.new.tree c.put_changed.new.tree n (number_in h.0) blank g c.in-Ok-with_bytes.file c.number_at-number.ensures c.take_out-file.ensures.tree is c.put_changed.ensures.tree)
     (told_back c.args.now n (number_in h.0) g c.in-Ok-with_bytes.file c.put_changed.result.answer c.number_at-number.ensures is c.put_changed.ensures.answer)
     c.put_changed.ensures.change
 
 pub returns-in-Err-with_bytes-clause-err : goal.returns-in-Err-with_bytes-clause-err
 returns-in-Err-with_bytes-clause-err c =
-    let t = c.args.tree.now in
-    let n = c.number_at-number.result in
-    let between : c.replace.new.self ≡ insert t.files n c.placeholder.result = (c.in-Some.ensures {u = tt}).some in
-    let other : get c.replace.new.self n ≡ Some c.placeholder.result = ap (λ (m : FinMap nat_cmp File). get m n) between ∙ put_there t n c.placeholder.result in
-    let back : c.replace-in-Err-with_bytes.new.self ≡ insert c.replace.new.self n c.in-Err-with_bytes.file =
-    where_some c.replace-in-Err-with_bytes.result c.placeholder.result (c.replace-in-Err-with_bytes.ensures.before ∙ other) c.replace-in-Err-with_bytes.ensures.some in
-    let same : c.in-Err-with_bytes.file ≡ c.in-Some.file = (c.in-Err-with_bytes.ensures {u = tt}).err in
-    let live : get t.files n ≡ Some c.in-Err-with_bytes.file = sym ((c.in-Some.ensures {u = tt}).before) ∙ ap Some (sym same) in
-    ap (λ (m : FinMap nat_cmp File). let u : PlainTree = record t { files = m } in u)
-    (back ∙ ap (λ (m : FinMap nat_cmp File). insert m n c.in-Err-with_bytes.file) between ∙ insert_back t.files n c.in-Err-with_bytes.file c.placeholder.result live)
+    put_same c.args.tree.now c.take_out-file.new.tree c.put_back.new.tree c.number_at-number.result blank c.in-Err-with_bytes.file c.take_out-file.ensures.tree c.put_back.ensures
+    (c.take_out-file.ensures.file ∙ ap Some (sym ((c.in-Err-with_bytes.ensures {u = tt}).err)))

@@ -3,7 +3,7 @@ use Rattle.std.specs.Ordering.{nat_cmp}
 use Rattle.std.specs.FinMap.{FinMap, get}
 use Rattle.sfs_base.proofs.MapLemmas.{get_inserted}
 use Rattle.fs_rules.specs.declared.file.File.{File}
-use Rattle.fs_tree.proofs.GivenLemmas.{given_live}
+use Rattle.fs_decisions.proofs.GivenLemmas.{given_live}
 use Rattle.fs_rules.specs.declared.plain_tree.PlainTree.{PlainTree}
 use Rattle.fs_rules.specs.Good.{IsGood}
 use Rattle.fs_rules.specs.Fresh.{fresh}

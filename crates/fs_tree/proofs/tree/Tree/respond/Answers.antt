@@ -2,7 +2,7 @@ use Rattle.std.proofs.Common.{sym, subst, ◌∙◌}
 use Rattle.fs_rules.specs.declared.plain_tree.PlainTree.{PlainTree}
 use Rattle.fs_rules.specs.Good.{IsGood}
 use Rattle.fs_rules.specs.Respond.{IsPick}
-use Rattle.fs_tree.specs.Given.{AllAreGiven}
+use Rattle.fs_decisions.specs.Given.{AllAreGiven}
 use Rattle.fs_tree.proofs.LeftLemmas.{good_left, told_left, given_left, made_left}
 use Rattle.fs_tree.proofs.tree.Tree.respond.Goals as goal
 use Rattle.fs_tree.proofs.tree.Tree.respond.Goals.{in-Some, in_default}

@@ -1,0 +1,4 @@
+pub mod PutLemmas
+pub mod TakingLemmas
+pub mod MakingLemmas
+pub mod MovingLemmas

@@ -1,0 +1,4 @@
+pub mod Blank
+pub mod Taking
+pub mod Giving
+pub mod Moving

@@ -1,5 +1,0 @@
-use Rattle.fs_tree.proofs.ChainLemmas.{IsMoved}
-use Rattle.fs_tree.proofs.chain.check_chain.Given as goal
-
-abbrev pub invariant-loop : goal.invariant-loop
-invariant-loop l = IsMoved l.tree l.dir l.source l.counter l.at l.is_above
