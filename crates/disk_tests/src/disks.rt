@@ -1,6 +1,8 @@
 ghost use Rattle.std.specs.Prelude.{◌+◌, ◌^◌, ◌<◌};
 
-use disk_model::{Bytes, Calls, Change, Choice, Disk, Failed, NoMemory, PlanDisk, PlanShelf, Shelf, Stop};
+use disk_model::{
+    Bytes, Calls, Change, Choice, Disk, Failed, NoMemory, PlanDisk, PlanShelf, Shelf, Stop,
+};
 use std::test::*;
 
 fn disk_of(rt: &HostRuntime, failing: &[u64]) -> Result<PlanDisk, Fail> {

@@ -1,4 +1,6 @@
-use fs_chain::{BLOCK_BYTES, ChainBlock, REFERENCES_PER_CHAIN, Reference, References, read_chain, write_chain};
+use fs_chain::{
+    BLOCK_BYTES, ChainBlock, REFERENCES_PER_CHAIN, Reference, References, read_chain, write_chain,
+};
 use std::test::*;
 
 const FIRST_BLOCK: Option<Reference> = Some(Reference {

@@ -1,7 +1,8 @@
 use fs_layout::{
-    Attrs, BITMAPS_AT, BLOCK_BYTES, HANDLE_BYTES, INODE_BITMAP_AT, INODE_BYTES, INODES_AT, InodePlace, Layout,
-    NotAReference, Reference, SUPERBLOCK_AT, Superblock, are_zeros, read_handle, read_inode, read_superblock, read_words,
-    write_handle, write_inode, write_superblock, write_words,
+    Attrs, BITMAPS_AT, BLOCK_BYTES, HANDLE_BYTES, INODE_BITMAP_AT, INODE_BYTES, INODES_AT,
+    InodePlace, Layout, NotAReference, Reference, SUPERBLOCK_AT, Superblock, are_zeros,
+    read_handle, read_inode, read_superblock, read_words, write_handle, write_inode,
+    write_superblock, write_words,
 };
 use std::test::*;
 

@@ -1,6 +1,6 @@
 use fs_dir::{
-    BLOCK_BYTES, MAX_NAME_BYTES, NoMemory, Seq, Slot, SlotFault, Slots, are_slots, find, lowest_empty, read_slots,
-    write_slots,
+    BLOCK_BYTES, MAX_NAME_BYTES, NoMemory, Seq, Slot, SlotFault, Slots, are_slots, find,
+    lowest_empty, read_slots, write_slots,
 };
 use std::alloc::Global;
 use std::test::*;

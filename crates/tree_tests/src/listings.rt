@@ -1,7 +1,5 @@
 use fs_listing::{Listing, listing};
-use fs_rules::{
-    Blocks, Content, Entry, File, Files, Geometry, PlainTree, ROOT, Slots, Stamp,
-};
+use fs_rules::{Blocks, Content, Entry, File, Files, Geometry, PlainTree, ROOT, Slots, Stamp};
 use sfs_base::{Bytes, NoMemory, Table};
 use std::alloc::Global;
 use std::test::*;

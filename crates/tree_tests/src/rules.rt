@@ -1,6 +1,6 @@
 use fs_rules::{
-    Attrs, Blocks, Bytes, Content, Cred, Fattr, File, Geometry, Handle, NoMemory, READ, SEARCH, Stamp, handle_of,
-    is_of_group, may, number_at,
+    Attrs, Blocks, Bytes, Content, Cred, Fattr, File, Geometry, Handle, NoMemory, READ, SEARCH,
+    Stamp, handle_of, is_of_group, may, number_at,
 };
 use sfs_base::Seq;
 use std::alloc::Global;
@@ -41,7 +41,13 @@ fn each_number_of_a_geometry_has_its_limits(rt: HostRuntime) {
         inodes: 16_384,
     };
     assert!(rt; greatest.is_within_limits());
-    assert!(rt; !Geometry { nodes: 9, ..greatest }.is_within_limits());
+    assert!(rt;
+        !Geometry {
+            nodes: 9,
+            ..greatest
+        }
+        .is_within_limits()
+    );
 }
 
 #[test]
@@ -59,9 +65,15 @@ fn a_handle_spells_mark_number_and_generation(rt: HostRuntime) {
 #[test]
 fn content_tells_its_kind_and_its_blocks(rt: HostRuntime) -> Result<(), Fail> {
     let content = Content::Regular(blocks_at(rt.alloc(), &[0, 7, 510])?);
-    assert_eq!(rt; (content.kind(), content.type_bits(), content.used()), (1, 0o100000, 5));
+    assert_eq!(rt;
+        (content.kind(), content.type_bits(), content.used()),
+        (1, 0o100000, 5)
+    );
     let link = Content::Link(blocks_at(rt.alloc(), &[0])?);
-    assert_eq!(rt; (link.kind(), link.type_bits(), link.used()), (5, 0o120000, 2));
+    assert_eq!(rt;
+        (link.kind(), link.type_bits(), link.used()),
+        (5, 0o120000, 2)
+    );
     Ok(())
 }
 

@@ -1,7 +1,9 @@
-//! The tests of minitransactions, of locks and of links. They stand in a crate above all three, so that none is proved
-//! once more for its tests.
+//! The tests of minitransactions, of locks, of links and of coordinators. They stand in a crate above all of these, so
+//! that none is proved once more for its tests.
 #![tactic(auto)]
 
+#[cfg(test)]
+mod coordinators;
 #[cfg(test)]
 mod links;
 #[cfg(test)]

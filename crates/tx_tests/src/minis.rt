@@ -2,8 +2,8 @@ ghost use Rattle.std.specs.Prelude.{◌≡◌, ◌∷◌, [], IfOk};
 ghost use Rattle.mini_tx.specs.declared.item.Item.TheVariants.{Compare as compare_item, Read as read_item, Write as write_item};
 
 use mini_tx::{
-    Bytes, CutId, Entry, EntryFault, Item, Items, Mini, MiniFault, NoMemory, Numbers, Range, Ranges, TxId, Vote, WriteAt,
-    perform, read_entry, write_entry,
+    Bytes, CutId, Entry, EntryFault, Item, Items, Mini, MiniFault, NoMemory, Numbers, Range,
+    Ranges, TxId, Vote, WriteAt, perform, read_entry, write_entry,
 };
 use sfs_base::Seq;
 use std::alloc::Global;

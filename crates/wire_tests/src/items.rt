@@ -56,7 +56,10 @@ fn values_are_written_and_read_again(rt: HostRuntime) -> Result<(), Fail> {
     let words: Seq<u32> = read_many::<u32>(rt.alloc(), &mut reader, 2)?;
     assert_eq!(rt; words.as_slice(), [5, 6].as_slice());
     assert_eq!(rt; bool::read(rt.alloc(), &mut reader)?, false);
-    assert_eq!(rt; u32::read(rt.alloc(), &mut reader), Err(ItemFault::Malformed));
+    assert_eq!(rt;
+        u32::read(rt.alloc(), &mut reader),
+        Err(ItemFault::Malformed)
+    );
     Ok(())
 }
 

@@ -1,6 +1,6 @@
 use schedule_text::{
-    Bytes, Calls, DropWhy, Event, Failed, Line, LineFault, PlanSink, PlanSource, Sink, Source, append_out, read_line,
-    read_out, write_line,
+    Bytes, Calls, DropWhy, Event, Failed, Line, LineFault, PlanSink, PlanSource, Sink, Source,
+    append_out, read_line, read_out, write_line,
 };
 use std::test::*;
 
@@ -130,6 +130,12 @@ fn lines_are_read_and_written(rt: HostRuntime) -> Result<(), Fail> {
 
 #[test]
 fn other_lines_are_refused(rt: HostRuntime) {
-    assert_eq!(rt; read_line(rt.alloc(), b"cluster 01 1 1 1"), Err(LineFault::Bad));
-    assert_eq!(rt; read_out(rt.alloc(), b"reply 1 at 0 AB"), Err(LineFault::Bad));
+    assert_eq!(rt;
+        read_line(rt.alloc(), b"cluster 01 1 1 1"),
+        Err(LineFault::Bad)
+    );
+    assert_eq!(rt;
+        read_out(rt.alloc(), b"reply 1 at 0 AB"),
+        Err(LineFault::Bad)
+    );
 }

@@ -23,7 +23,17 @@ fn a_call_is_written_and_read(rt: HostRuntime) -> Result<(), Fail> {
     let mut bytes = message(
         &rt,
         &[
-            dir, dir, dir, dir, dir, dir, dir, dir, 5, 0x6162_6364, 0x6500_0000,
+            dir,
+            dir,
+            dir,
+            dir,
+            dir,
+            dir,
+            dir,
+            dir,
+            5,
+            0x6162_6364,
+            0x6500_0000,
         ],
     )?;
     assert_eq!(rt; write_args(rt.alloc(), &call)?.as_slice(), bytes.as_slice());
@@ -42,7 +52,10 @@ fn an_answer_is_written_and_read(rt: HostRuntime) -> Result<(), Fail> {
     })?;
     let answer = Answer::Names { entries, eof: true };
     let bytes = message(&rt, &[0, 1, 7, 1, 0x2e00_0000, 1, 0, 1])?;
-    assert_eq!(rt; write_answer(rt.alloc(), &answer)?.as_slice(), bytes.as_slice());
+    assert_eq!(rt;
+        write_answer(rt.alloc(), &answer)?.as_slice(),
+        bytes.as_slice()
+    );
     assert!(rt; read_answer(rt.alloc(), 16, &bytes)? == answer);
     Ok(())
 }

@@ -1,8 +1,8 @@
-use super::*;
 use mini_tx::{Item, MiniFault, Vote};
 use sfs_base::Seq;
 use std::alloc::Global;
 use std::test::*;
+use tx_coord::{Coordinator, Message, Mini, NoMemory, Outcome, TxId, TxState};
 
 const ID: TxId = TxId {
     coord: 3,
