@@ -1,0 +1,9 @@
+pub mod ByteLemmas
+pub mod EditLemmas
+pub mod ContentLemmas
+pub mod WalkLemmas
+pub mod TreeLemmas
+pub mod FreshLemmas
+pub mod RegionLemmas
+pub mod OwnerLemmas
+pub mod FirstFreeLemmas

@@ -1,0 +1,9 @@
+pub mod Owners
+pub mod Parts
+pub mod Places
+pub mod Stands
+pub mod Edits
+pub mod Laws
+pub mod Fresh
+pub mod Regions
+pub mod FirstFree

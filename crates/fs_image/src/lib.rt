@@ -1,0 +1,13 @@
+//! What blocks are as a file system: by which owners of its blocks a flat memory stands for a tree.
+//!
+//! There is no code here: `specs/Stands.antt` says when a flat memory stands for a tree, and each function below has one
+//! law as its contract (`docs/PROMISES.md`, "Images").
+#![tactic(auto)]
+
+mod laws;
+
+pub use laws::{
+    edits_are_shown, first_free_is_lowest, fresh_stands, lowest_is_found, numbers_are_apart,
+    one_tree, only_is_inverse, regions_are_apart, regions_are_inside, taken_is_inverse,
+    writes_stay_apart,
+};
