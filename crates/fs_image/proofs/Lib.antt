@@ -7,3 +7,6 @@ pub mod FreshLemmas
 pub mod RegionLemmas
 pub mod OwnerLemmas
 pub mod FirstFreeLemmas
+pub mod SumLemmas
+pub mod CountLemmas
+pub mod WrittenLemmas

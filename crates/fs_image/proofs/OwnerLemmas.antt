@@ -6,7 +6,7 @@ use Rattle.std.proofs.lemmas.Option.{none-some}
 use Rattle.fs_layout.specs.declared.reference.Reference.{Reference}
 use Rattle.fs_image.specs.Owners.{Part, Chain, Block, Owned, Owners, IsInverse, is_same_place, is_same_part, taken, kept_part, only, TakenIsInverse, OnlyIsInverse}
 
-some_same : {A : Type 0} (a b : A) → Some a ≡ Some b → a ≡ b
+pub some_same : {A : Type 0} (a b : A) → Some a ≡ Some b → a ≡ b
 some_same a b same = ap (λ x. unwrap_or x a) same
 
 same_place : (p q : Reference) → is_same_place p q ≡ true → p ≡ q
@@ -17,13 +17,13 @@ same_place p q same =
 place_same : (p : Reference) → is_same_place p p ≡ true
 place_same p = ap (λ b. b && (p.block == p.block)) (eq-eqb p.memory p.memory refl) ∙ eq-eqb p.block p.block refl
 
-same_part : (x y : Part) → is_same_part x y ≡ true → x ≡ y
+pub same_part : (x y : Part) → is_same_part x y ≡ true → x ≡ y
 same_part (Chain k) (Chain j) same = ap Chain (eqb-true k j same)
 same_part (Chain k) (Block j) same = absurd (true≢false (sym same))
 same_part (Block k) (Chain j) same = absurd (true≢false (sym same))
 same_part (Block k) (Block j) same = ap Block (eqb-true k j same)
 
-part_same : (x : Part) → is_same_part x x ≡ true
+pub part_same : (x : Part) → is_same_part x x ≡ true
 part_same (Chain k) = eq-eqb k k refl
 part_same (Block k) = eq-eqb k k refl
 

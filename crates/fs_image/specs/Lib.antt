@@ -7,3 +7,5 @@ pub mod Laws
 pub mod Fresh
 pub mod Regions
 pub mod FirstFree
+pub mod Counts
+pub mod Written

@@ -1,10 +1,12 @@
 //! Laws of flat memories and the trees that they stand for.
+ghost use Rattle.fs_image.specs.Counts.{FreeBlocksAreFreeBits};
 ghost use Rattle.fs_image.specs.Edits.{EditsAreShown};
 ghost use Rattle.fs_image.specs.FirstFree.{FirstFreeIsLowest, LowestIsFound};
 ghost use Rattle.fs_image.specs.Fresh.{FreshStands};
 ghost use Rattle.fs_image.specs.Laws.{OneTree};
 ghost use Rattle.fs_image.specs.Owners.{OnlyIsInverse, TakenIsInverse};
 ghost use Rattle.fs_image.specs.Regions.{NumbersAreApart, RegionsAreApart, RegionsAreInside, WritesStayApart};
+ghost use Rattle.fs_image.specs.Written.{WrittenIsShown};
 
 /// Where only the files of edits are touched, and each of these is shown as the edits leave it, the tree after the edits
 /// is shown.
@@ -61,4 +63,14 @@ pub fn first_free_is_lowest()
 /// What a search of a map finds is its lowest free bit.
 pub fn lowest_is_found()
     ensures { LowestIsFound }
+{}
+
+/// The free blocks of the tree are the free bits of the maps of the blocks.
+pub fn free_blocks_are_free_bits()
+    ensures { FreeBlocksAreFreeBits }
+{}
+
+/// A file that is changed is shown where its record is written, and each of its parts is written, or kept where it was.
+pub fn written_is_shown()
+    ensures { WrittenIsShown }
 {}

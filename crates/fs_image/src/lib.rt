@@ -7,7 +7,7 @@
 mod laws;
 
 pub use laws::{
-    edits_are_shown, first_free_is_lowest, fresh_stands, lowest_is_found, numbers_are_apart,
-    one_tree, only_is_inverse, regions_are_apart, regions_are_inside, taken_is_inverse,
-    writes_stay_apart,
+    edits_are_shown, first_free_is_lowest, free_blocks_are_free_bits, fresh_stands,
+    lowest_is_found, numbers_are_apart, one_tree, only_is_inverse, regions_are_apart,
+    regions_are_inside, taken_is_inverse, writes_stay_apart, written_is_shown,
 };
