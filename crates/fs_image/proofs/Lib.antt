@@ -10,3 +10,5 @@ pub mod FirstFreeLemmas
 pub mod SumLemmas
 pub mod CountLemmas
 pub mod WrittenLemmas
+pub mod StampLemmas
+pub mod RecordLemmas

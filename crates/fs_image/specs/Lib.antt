@@ -9,3 +9,5 @@ pub mod Regions
 pub mod FirstFree
 pub mod Counts
 pub mod Written
+pub mod Stamps
+pub mod Records

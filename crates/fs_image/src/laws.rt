@@ -1,12 +1,17 @@
 //! Laws of flat memories and the trees that they stand for.
+ghost use Rattle.std.specs.Prelude.{◌≡◌};
 ghost use Rattle.fs_image.specs.Counts.{FreeBlocksAreFreeBits};
 ghost use Rattle.fs_image.specs.Edits.{EditsAreShown};
 ghost use Rattle.fs_image.specs.FirstFree.{FirstFreeIsLowest, LowestIsFound};
 ghost use Rattle.fs_image.specs.Fresh.{FreshStands};
 ghost use Rattle.fs_image.specs.Laws.{OneTree};
 ghost use Rattle.fs_image.specs.Owners.{OnlyIsInverse, TakenIsInverse};
+ghost use Rattle.fs_image.specs.Records.{ReadChainsAreChains, ReadSlotsAreSlots, SetBitsAreCounted, SlotsAreFoundAlike};
 ghost use Rattle.fs_image.specs.Regions.{NumbersAreApart, RegionsAreApart, RegionsAreInside, WritesStayApart};
+ghost use Rattle.fs_image.specs.Stamps.{StampIsInRecord, StampsTell};
 ghost use Rattle.fs_image.specs.Written.{WrittenIsShown};
+
+use fs_layout::{BITMAPS_AT, INODE_BITMAP_AT, INODES_AT, SUPERBLOCK_AT};
 
 /// Where only the files of edits are touched, and each of these is shown as the edits leave it, the tree after the edits
 /// is shown.
@@ -27,6 +32,11 @@ pub fn fresh_stands()
 /// Two regions of an image share no byte.
 pub fn regions_are_apart()
     ensures { RegionsAreApart }
+{}
+
+/// The places of the first page, of the maps and of the records are the constants that name them.
+pub fn regions_have_constants()
+    ensures { (SUPERBLOCK_AT ≡ 0) × (BITMAPS_AT ≡ 4096) × (INODE_BITMAP_AT ≡ 6144) × (INODES_AT ≡ 8192) }
 {}
 
 /// A region lies within its image.
@@ -73,4 +83,35 @@ pub fn free_blocks_are_free_bits()
 /// A file that is changed is shown where its record is written, and each of its parts is written, or kept where it was.
 pub fn written_is_shown()
     ensures { WrittenIsShown }
+{}
+
+/// A file's stamp is the bytes 24 to 39 of its record.
+pub fn stamp_is_in_record()
+    ensures { StampIsInRecord }
+{}
+
+/// Records with one stamp have the same generation, blocks in use and change number.
+pub fn stamps_tell()
+    ensures { StampsTell }
+{}
+
+/// A chaining block that was read can be written.
+pub fn read_chains_are_chains()
+    ensures { ReadChainsAreChains }
+{}
+
+/// The slots of a block that were read can be written.
+pub fn read_slots_are_slots()
+    ensures { ReadSlotsAreSlots }
+{}
+
+/// A free bit that is set is one free bit less, and a used one that is freed one more.
+pub fn set_bits_are_counted()
+    ensures { SetBitsAreCounted }
+{}
+
+/// The slot with a name and the lowest empty one are found at the same place in the slots of blocks and in those of the
+/// rules.
+pub fn slots_are_found_alike()
+    ensures { SlotsAreFoundAlike }
 {}
