@@ -3,7 +3,6 @@ ghost use Rattle.nfs_proto.specs.declared.call.Call.TheVariants.{Link};
 ghost use Rattle.fs_rules.specs.Good.{IsGood};
 ghost use Rattle.fs_rules.specs.Respond.{respond};
 ghost use Rattle.fs_tree.specs.Meets.{Ends};
-ghost use Rattle.fs_decisions.specs.Steps.{refused};
 
 use crate::response::Response;
 use crate::stop::Stop;

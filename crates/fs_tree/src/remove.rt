@@ -4,12 +4,12 @@ ghost use Rattle.fs_rules.specs.Respond.{respond};
 ghost use Rattle.fs_decisions.specs.Removing.{removal_of};
 ghost use Rattle.fs_tree.specs.Meets.{Ends};
 
-use crate::response::{Change, Response};
+use crate::response::Response;
 use crate::stop::Stop;
 use fs_checks::Removal;
 use fs_decisions::removed;
 use fs_edits::take_entry;
-use fs_rules::{Answer, Cred, Handle, PlainTree, Stamp, number_at};
+use fs_rules::{Cred, Handle, PlainTree, Stamp, number_at};
 use std::alloc::Global;
 
 /// REMOVE and RMDIR: take a name of a file, which is no directory, away, or free a directory in which no

@@ -27,8 +27,8 @@ pub(crate) fn rename(
     ensures meets { (start : ℕ) → Ends tree.old (respond tree.old (Rename from.now from_name.now to.now to_name.now) cred.now now start) tree.new result }
     ensures err { OnErr result (tree.new ≡ tree.old) }
 {
-    match decided(tree, from, from_name, to, to_name, cred) {
-        Decision::Refused(status) => Err(Stop::Refused(status)),
+    let decision = decided(tree, from, from_name, to, to_name, cred)?;
+    match decision {
         Decision::Same => Ok(Response::told(Answer::Plain)),
         Decision::Moves(plan) => {
             carry_over(alloc, tree, plan, from_name, to_name, now)?;

@@ -1,10 +1,9 @@
-ghost use Rattle.std.specs.Prelude.{◌≡◌, ◌-◌, ℕ, Some, OnErr};
+ghost use Rattle.std.specs.Prelude.{◌≡◌, ◌-◌, ℕ, OnErr};
 ghost use Rattle.nfs_proto.specs.declared.call.Call.TheVariants.{SetAttr};
 ghost use Rattle.fs_rules.specs.Good.{IsGood};
 ghost use Rattle.fs_rules.specs.Attributes.{sets_something, with_attributes};
 ghost use Rattle.fs_rules.specs.Respond.{respond};
 ghost use Rattle.fs_tree.specs.Meets.{Ends};
-ghost use Rattle.fs_decisions.specs.Steps.{refused};
 
 use crate::change::put_changed;
 use crate::response::Response;

@@ -4,14 +4,13 @@ use Rattle.nfs_proto.specs.declared.call.Call.{Call}
 use Rattle.nfs_proto.specs.declared.call.Call.TheVariants.{Create}
 use Rattle.fs_rules.specs.File.{used}
 use Rattle.fs_rules.specs.Handle.{number_in}
-use Rattle.fs_rules.specs.Statuses.{acces, exist}
+use Rattle.fs_rules.specs.Statuses.{acces}
 use Rattle.fs_rules.specs.Respond.{Responded}
 use Rattle.fs_tree.specs.declared.new_file.NewFile.{NewFile}
 use Rattle.fs_tree.specs.Meets.{Ends}
 use Rattle.fs_tree.specs.NewFiles.{Makes, regular_of}
 use Rattle.fs_decisions.specs.Steps.{named}
 use Rattle.fs_decisions.proofs.RowLemmas.{named_there}
-use Rattle.fs_tree.proofs.ChangedLemmas.{meets_refused}
 use Rattle.fs_tree.proofs.NewNameLemmas.{row_directory, named_lives}
 use Rattle.fs_rules.specs.Making.{new_checks}
 use Rattle.fs_rules.specs.Statuses.{first_failure}

@@ -1,7 +1,5 @@
 use Rattle.std.proofs.Common.{◌≡◌, ◌-◌, ◌^◌, ◌<◌, Some, sym, ap, subst, ◌∙◌, refl, rules, arith}
-use Rattle.std.specs.Prelude.{IsSome}
-use Rattle.std.specs.FinMap.{FinMap, get}
-use Rattle.std.specs.Ordering.{nat_cmp}
+use Rattle.std.specs.FinMap.{get}
 use Rattle.nfs_proto.specs.declared.answer.Answer.TheVariants.{Found}
 use Rattle.nfs_proto.specs.declared.fattr.Fattr.{Fattr}
 use Rattle.nfs_proto.specs.declared.sattr.Sattr.{Sattr}
@@ -15,7 +13,6 @@ use Rattle.fs_checks.proofs.FactsLemmas.{existing_looks, passed_of, failed_of, p
 use Rattle.fs_decisions.specs.Steps.{Fits}
 use Rattle.fs_decisions.specs.Limits.{change_limits}
 use Rattle.fs_tree.specs.Creating.{found_of}
-use Rattle.fs_tree.proofs.ChangedLemmas.{meets_refused}
 use Rattle.fs_edits.proofs.PutLemmas.{put_back, one_file, is_there, still_there}
 use Rattle.fs_edits.specs.Blank.{blank}
 use Rattle.fs_tree.proofs.MeetsLemmas.{meets_told}

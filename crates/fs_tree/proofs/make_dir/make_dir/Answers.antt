@@ -3,12 +3,11 @@ use Rattle.std.specs.FinMap.{get}
 use Rattle.nfs_proto.specs.declared.call.Call.{Call}
 use Rattle.nfs_proto.specs.declared.call.Call.TheVariants.{MakeDir}
 use Rattle.fs_rules.specs.File.{used}
-use Rattle.fs_rules.specs.Statuses.{acces, exist}
+use Rattle.fs_rules.specs.Statuses.{acces}
 use Rattle.fs_tree.specs.declared.new_file.NewFile.{NewFile}
 use Rattle.fs_tree.specs.NewFiles.{Makes, directory_of}
 use Rattle.fs_decisions.specs.Steps.{named}
 use Rattle.fs_decisions.proofs.RowLemmas.{named_there}
-use Rattle.fs_tree.proofs.ChangedLemmas.{meets_refused}
 use Rattle.fs_tree.proofs.NewNameLemmas.{row_directory}
 use Rattle.fs_tree.proofs.MakeDirLemmas.{make_dir_stopped, make_dir_taken, make_dir_makes}
 use Rattle.std.proofs.lemmas.Result.{err_from_is_err_and}

@@ -9,7 +9,6 @@ use Rattle.fs_decisions.specs.Limits.{is_pick, made_limits}
 use Rattle.fs_edits.specs.Giving.{receiving}
 use Rattle.fs_tree.specs.NewFiles.{Makes, made_with}
 use Rattle.fs_decisions.specs.Steps.{Fits}
-use Rattle.fs_tree.proofs.ChangedLemmas.{meets_refused}
 use Rattle.fs_edits.proofs.PutLemmas.{one_file}
 use Rattle.fs_tree.proofs.MakeLimitLemmas.{may_make, free_pick}
 use Rattle.fs_tree.proofs.NewNameLemmas.{few_slots}

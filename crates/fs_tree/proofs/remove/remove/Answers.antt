@@ -1,13 +1,8 @@
-use Rattle.std.proofs.Common.{◌≡◌, ◌≢◌, ℕ, Bool, false, cond, [], ◌∷◌, refl, sym, ap, subst, ◌∙◌}
-use Rattle.nfs_proto.specs.declared.answer.Answer.TheVariants.{Plain}
-use Rattle.fs_rules.specs.declared.plain_tree.PlainTree.{PlainTree}
+use Rattle.std.proofs.Common.{◌≡◌, ℕ, refl, sym, ap, subst, ◌∙◌}
 use Rattle.fs_rules.specs.Handle.{number_in}
 use Rattle.fs_rules.specs.File.{is_directory}
 use Rattle.fs_rules.specs.Edits.{edited}
 use Rattle.fs_rules.specs.Names.{without_name, unlinked, one_where}
-use Rattle.fs_rules.specs.Respond.{answer_of}
-use Rattle.fs_checks.specs.declared.removal.Removal.{Removal}
-use Rattle.fs_checks.specs.declared.removal.Removal.TheVariants as removal
 use Rattle.fs_edits.specs.Taking.{CanTake, lost, taken_edits}
 use Rattle.fs_decisions.specs.Removing.{removal_of}
 use Rattle.fs_tree.proofs.TakenLemmas.{meets_two, number_lost, made_lost, removal_answers}

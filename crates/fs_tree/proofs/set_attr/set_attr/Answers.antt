@@ -1,7 +1,6 @@
 use Rattle.std.proofs.Common.{◌≡◌, ℕ, ◌-◌, ◌^◌, ◌<◌, Some, sym, ap, subst, ◌∙◌, refl, arith}
 use Rattle.std.specs.Prelude.{IsSome}
-use Rattle.std.specs.FinMap.{FinMap, get}
-use Rattle.std.specs.Ordering.{nat_cmp}
+use Rattle.std.specs.FinMap.{get}
 use Rattle.nfs_proto.specs.declared.answer.Answer.TheVariants.{Attr}
 use Rattle.nfs_proto.specs.declared.call.Call.TheVariants.{SetAttr}
 use Rattle.fs_rules.specs.declared.file.File.{File}
@@ -11,7 +10,7 @@ use Rattle.fs_rules.specs.Arguments.{file_of}
 use Rattle.fs_rules.specs.Attributes.{with_attributes}
 use Rattle.fs_decisions.specs.Steps.{Fits}
 use Rattle.fs_decisions.proofs.RowLemmas.{named_there}
-use Rattle.fs_tree.proofs.ChangedLemmas.{meets_refused, meets_changed, told_back}
+use Rattle.fs_tree.proofs.ChangedLemmas.{meets_changed, told_back}
 use Rattle.fs_edits.proofs.PutLemmas.{put_back, one_file, is_there, still_there}
 use Rattle.fs_edits.specs.Blank.{blank}
 use Rattle.fs_tree.proofs.MeetsLemmas.{meets_told}

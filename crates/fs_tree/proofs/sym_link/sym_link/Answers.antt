@@ -2,12 +2,11 @@ use Rattle.std.proofs.Common.{◌≡◌, ◌≤◌, ◌==◌, ℕ, true, false, 
 use Rattle.std.specs.FinMap.{get}
 use Rattle.nfs_proto.specs.declared.call.Call.{Call}
 use Rattle.nfs_proto.specs.declared.call.Call.TheVariants.{SymLink}
-use Rattle.fs_rules.specs.Statuses.{acces, exist, noent}
+use Rattle.fs_rules.specs.Statuses.{acces}
 use Rattle.fs_tree.specs.declared.new_file.NewFile.{NewFile}
 use Rattle.fs_tree.specs.NewFiles.{Makes, link_of}
 use Rattle.fs_decisions.specs.Steps.{named}
 use Rattle.fs_decisions.proofs.RowLemmas.{named_there}
-use Rattle.fs_tree.proofs.ChangedLemmas.{meets_refused}
 use Rattle.fs_tree.proofs.NewNameLemmas.{row_directory}
 use Rattle.fs_tree.proofs.SymLinkLemmas.{sym_link_stopped, sym_link_taken, sym_link_empty, sym_link_makes}
 use Rattle.std.proofs.lemmas.Result.{err_from_is_err_and}

@@ -1,12 +1,9 @@
 use Rattle.std.proofs.Common.{◌≡◌, ℕ, ◌-◌, ◌^◌, ◌<◌, true, false, Some, None, sym, ap, subst, ◌∙◌, refl, rules, arith}
 use Rattle.std.specs.Prelude.{IsSome}
-use Rattle.std.specs.Ordering.{nat_cmp}
-use Rattle.std.specs.FinMap.{FinMap, get, insert}
-use Rattle.sfs_base.proofs.MapLemmas.{where_some, insert_back}
+use Rattle.std.specs.FinMap.{get}
 use Rattle.nfs_proto.specs.declared.answer.Answer.TheVariants.{Attr}
 use Rattle.nfs_proto.specs.declared.call.Call.TheVariants.{Write}
 use Rattle.fs_rules.specs.declared.file.File.{File}
-use Rattle.fs_rules.specs.declared.plain_tree.PlainTree.{PlainTree}
 use Rattle.fs_rules.specs.Handle.{number_in}
 use Rattle.fs_rules.specs.File.{fattr_of}
 use Rattle.fs_rules.specs.Statuses.{first_failure}
@@ -16,7 +13,7 @@ use Rattle.fs_decisions.specs.Steps.{Fits}
 use Rattle.fs_decisions.specs.Limits.{change_limits}
 use Rattle.fs_checks.proofs.FactsLemmas.{passed as has_passed, failed}
 use Rattle.fs_decisions.proofs.RowLemmas.{named_there}
-use Rattle.fs_tree.proofs.ChangedLemmas.{meets_refused, meets_changed, told_back}
+use Rattle.fs_tree.proofs.ChangedLemmas.{meets_changed, told_back}
 use Rattle.fs_edits.proofs.PutLemmas.{put_back, put_same, one_file, is_there, still_there}
 use Rattle.fs_edits.specs.Blank.{blank}
 use Rattle.fs_tree.proofs.MeetsLemmas.{meets_told}
