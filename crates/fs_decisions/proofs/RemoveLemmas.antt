@@ -1,5 +1,5 @@
 -- What respond is for REMOVE and RMDIR.
-use Rattle.std.proofs.Common.{◌≡◌, ◌≢◌, ◌⊎◌, inl, inr, ℕ, ◌+◌, ◌-◌, ◌^◌, ◌<◌, ◌≤◌, Bool, true, false, cond, eqb, List, [], ◌∷◌, length, Option, Some, None, refl, sym, ap, subst, ◌∙◌, arith}
+use Rattle.std.proofs.Common.{◌≡◌, ◌≢◌, ◌⊎◌, inl, inr, ℕ, ◌-◌, ◌^◌, ◌<◌, ◌≤◌, Bool, true, false, cond, eqb, List, [], ◌∷◌, length, Option, Some, None, refl, sym, ap, subst, ◌∙◌, arith}
 use Rattle.std.specs.Prelude.{nat_lt, not, ◌||◌}
 use Rattle.std.specs.Option.{option_map_or}
 use Rattle.std.proofs.lemmas.Bool.{not-false}
@@ -15,13 +15,12 @@ use Rattle.fs_rules.specs.File.{slots_of, is_directory}
 use Rattle.fs_rules.specs.Slots.{file_named, is_in_use}
 use Rattle.fs_rules.specs.Statuses.{first_failure, fbig}
 use Rattle.fs_rules.specs.Arguments.{file_of, at_number, argument_checks}
-use Rattle.fs_rules.specs.Edits.{Edit, Changed, Freed, limits, is_spent, is_made}
+use Rattle.fs_rules.specs.Edits.{Edit, Changed, Freed, limits, is_spent}
 use Rattle.fs_rules.specs.Names.{remove_checks, remove_edits, remove_edits_by, remove_dir_checks, remove_dir_edits, remove_dir_edits_by, without_name, unlinked, loses_link, one_where}
 use Rattle.fs_rules.specs.Good.{IsGood}
 use Rattle.fs_rules.specs.Respond.{own_checks, edits_of, decided, respond}
 use Rattle.fs_laws.proofs.StatusLemmas.{passed, not_so}
 use Rattle.fs_laws.proofs.WholeLemmas.{IsWhole, whole_from_good, some_of, named_in}
-use Rattle.fs_laws.proofs.EditLemmas.{number_of}
 use Rattle.fs_laws.proofs.DirLemmas.{IsDir, dir_content, dir_list, dir_links}
 use Rattle.fs_laws.proofs.LinkLemmas.{plain_content, IsFile, file_apart, IsNamedFile, named_file_of, IsEmptyDir, empty_none}
 use Rattle.fs_checks.specs.declared.removal.Removal.{Removal}

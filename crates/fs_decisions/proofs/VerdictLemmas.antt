@@ -13,8 +13,3 @@ if_err P k (Err s) is holds = holds s (failed k (Err s) s is refl)
 pub if_ok : (P Q : Type 0) (k : Check) (r : Result (Unit {0}) Status) → r ≡ verdict k → OnOk r Q → (k ≡ None → Q → P) → OnOk r P
 if_ok P Q k (Ok u) is fact holds = holds (passed k (Ok u) u is refl) fact
 if_ok P Q k (Err s) is fact holds = tt
-
--- what was told of a check that passed
-pub ok_is : {Q : Type 0} (r : Result (Unit {0}) Status) (u : Unit {0}) → r ≡ Ok u → OnOk r Q → Q
-ok_is (Ok v) u is fact = fact
-ok_is (Err s) u is fact = absurd cc

@@ -23,9 +23,8 @@ use Rattle.fs_edits.specs.declared.replaced.Replaced.{Replaced}
 use Rattle.fs_edits.specs.declared.replaced.Replaced.TheVariants.{Nothing, LosesLink, IsFreed}
 use Rattle.fs_edits.specs.Moving.{CanMove, CanReplace}
 use Rattle.fs_decisions.specs.declared.decision.Decision.{Decision}
-use Rattle.fs_decisions.specs.declared.decision.Decision.TheVariants.{Refused, Same, Moves}
+use Rattle.fs_decisions.specs.declared.decision.Decision.TheVariants.{Same, Moves}
 use Rattle.fs_decisions.specs.Limits.{is_spent_at}
-use Rattle.fs_decisions.specs.Steps.{refused}
 
 -- ---- the checks
 
@@ -105,9 +104,8 @@ pub record MayMove (t : PlainTree) (from : Handle) (from_name : List ℕ) (to : 
   pub replacing : CanReplace t.files move p.replaced
   pub answers : respond t (Rename from from_name to to_name) cred now start ≡ decided None t (Rename from from_name to to_name) now (move_edits now move)
 
--- a decision is that of the rules
+-- a decision is that of the rules, where they do not refuse the call
 abbrev pub Decides : PlainTree → Handle → List ℕ → Handle → List ℕ → Cred → Decision → Type 0
-Decides t from from_name to to_name cred (Refused status) = (now : Stamp) → (start : ℕ) → respond t (Rename from from_name to to_name) cred now start ≡ refused t status.0
 Decides t from from_name to to_name cred Same =
     (now : Stamp) → (start : ℕ) → respond t (Rename from from_name to to_name) cred now start ≡ record { answer = Plain; tree = t; made = None }
 Decides t from from_name to to_name cred (Moves p) = (now : Stamp) → (start : ℕ) → MayMove t from from_name to to_name cred now start p

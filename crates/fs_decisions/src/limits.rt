@@ -1,4 +1,4 @@
-ghost use Rattle.std.specs.Prelude.{◌≡◌, ℕ, ◌^◌, ◌-◌, ◌<◌, ◌≤◌, ◌==◌, nat_lt, length, Some, true, false, OnOk};
+ghost use Rattle.std.specs.Prelude.{◌≡◌, ℕ, ◌^◌, ◌-◌, ◌<◌, ◌≤◌, ◌==◌, length, Some, true, false, OnOk};
 ghost use Rattle.std.specs.FinMap as map;
 ghost use Rattle.fs_rules.specs.declared.file.File.{File as AFile};
 ghost use Rattle.fs_rules.specs.Good.{IsGood};

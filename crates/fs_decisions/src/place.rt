@@ -4,7 +4,7 @@ ghost use Rattle.fs_rules.specs.declared.file.File.{File};
 ghost use Rattle.fs_rules.specs.Good.{IsGood};
 ghost use Rattle.fs_rules.specs.File.{is_directory};
 ghost use Rattle.fs_rules.specs.Slots as slot;
-ghost use Rattle.fs_decisions.specs.Limits.{is_pick, used_by, made_limits};
+ghost use Rattle.fs_decisions.specs.Limits.{is_pick, made_limits};
 
 use crate::limits::{is_last, rise_to};
 use crate::numbers::is_pick;

@@ -1,6 +1,7 @@
 ghost use Rattle.std.specs.Prelude.{◌≡◌, ◌-◌, ◌^◌, ◌<◌, ◌≤◌, ℕ, None, Some, IfOk, IfErr, OnOk, false, ◌==◌};
 ghost use Rattle.std.specs.FinMap as map;
 ghost use Rattle.nfs_proto.specs.declared.call.Call.TheVariants.{Rename};
+ghost use Rattle.nfs_proto.specs.declared.stamp.Stamp.{Stamp as AStamp};
 ghost use Rattle.fs_rules.specs.declared.file.File.{File as AFile};
 ghost use Rattle.fs_rules.specs.Access.{may};
 ghost use Rattle.fs_rules.specs.Good.{IsGood};
@@ -8,8 +9,10 @@ ghost use Rattle.fs_rules.specs.File.{slots_of, is_directory};
 ghost use Rattle.fs_rules.specs.Slots.{file_named};
 ghost use Rattle.fs_rules.specs.Statuses.{first_failure};
 ghost use Rattle.fs_rules.specs.Arguments.{file_of, argument_checks};
+ghost use Rattle.fs_rules.specs.Respond.{respond};
 ghost use Rattle.fs_checks.specs.Rows.{pair_row};
 ghost use Rattle.fs_checks.specs.Verdict.{verdict};
+ghost use Rattle.fs_decisions.specs.Steps.{refused};
 ghost use Rattle.fs_decisions.specs.Renaming.{source_row, replaced_is, over_row, kind_check, move_check, goes_across, fate_of, replaced_at, plan_of, spent_by, CanRise, Decides};
 
 use crate::chain::{check_chain, is_at};
@@ -23,6 +26,11 @@ use fs_rules::{Cred, File, Handle, PlainTree, number_at};
 
 /// What the rules say of a RENAME of a name of one directory to a name of another one, or of the same (RFC
 /// 1094, section 2.2.12).
+///
+/// # Errors
+///
+/// The status of the first check that fails: of the arguments, of the names and their files, and of the
+/// limits.
 pub fn decided(
     tree: &PlainTree,
     from: &Handle,
@@ -30,32 +38,25 @@ pub fn decided(
     to: &Handle,
     to_name: &[u8],
     cred: &Cred,
-) -> Decision
+) -> Result<Decision, Status>
     requires { IsGood tree.now }
-    ensures { Decides tree.now from.now from_name.now to.now to_name.now cred.now result }
+    ensures ok { IfOk result (λ decision. Decides tree.now from.now from_name.now to.now to_name.now cred.now decision) }
+    ensures err { IfErr result (λ status. (now : AStamp) → (start : ℕ) → respond tree.now (Rename from.now from_name.now to.now to_name.now) cred.now now start ≡ refused tree.now status.0) }
 {
-    let (from_dir, to_dir) = match directories_of(tree, from, from_name, to, to_name, cred) {
-        Ok(dirs) => dirs,
-        Err(status) => return Decision::Refused(status),
-    };
-    let (source, replaced) = match files_of(from_dir, from_name, to_dir, to_name) {
-        Ok(files) => files,
-        Err(status) => return Decision::Refused(status),
-    };
+    let dirs = directories_of(tree, from, from_name, to, to_name, cred)?;
+    let (from_dir, to_dir) = dirs;
+    let files = files_of(from_dir, from_name, to_dir, to_name)?;
+    let (source, replaced) = files;
     if is_at(replaced, source) {
-        return Decision::Same;
+        return Ok(Decision::Same);
     }
     let (a, b) = (number_at(from), number_at(to));
-    if let Err(status) = check_move(tree, a, b, source, replaced) {
-        return Decision::Refused(status);
-    }
+    check_move(tree, a, b, source, replaced)?;
     let plan = plan(tree, a, b, to_dir, source, replaced);
     let is_spent = is_any_spent(tree, from_dir, to_dir, source, replaced);
     let slots = slots_with(&to_dir.content, to_name);
-    match check_growth(tree, is_spent, plan.links, to_dir, slots) {
-        Err(status) => Decision::Refused(status),
-        Ok(()) => Decision::Moves(plan),
-    }
+    check_growth(tree, is_spent, plan.links, to_dir, slots)?;
+    Ok(Decision::Moves(plan))
 }
 
 // The two directories, where the arguments pass their checks; else the status of the first that fails.

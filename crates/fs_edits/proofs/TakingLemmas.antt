@@ -4,7 +4,7 @@ use Rattle.nfs_proto.specs.declared.stamp.Stamp.{Stamp}
 use Rattle.fs_rules.specs.declared.file.File.{File}
 use Rattle.fs_rules.specs.declared.plain_tree.PlainTree.{PlainTree}
 use Rattle.fs_rules.specs.File.{is_directory}
-use Rattle.fs_rules.specs.Edits.{Edit, Changed, Freed}
+use Rattle.fs_rules.specs.Edits.{Changed, Freed}
 use Rattle.fs_rules.specs.Names.{without_name, unlinked, loses_link, one_where}
 use Rattle.fs_edits.specs.Taking.{CanTake, taken_edits}
 

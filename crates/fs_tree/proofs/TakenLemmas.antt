@@ -1,5 +1,5 @@
 -- That a call which changes two files meets the rules.
-use Rattle.std.proofs.Common.{◌≡◌, ◌≢◌, ℕ, ◌+◌, false, [], ◌∷◌, Option, Some, None, refl, sym, ap, subst, ◌∙◌, arith, List, Bool, true, cond}
+use Rattle.std.proofs.Common.{◌≡◌, ◌≢◌, ℕ, ◌+◌, false, [], ◌∷◌, Option, Some, None, refl, sym, ap, subst, ◌∙◌, arith, List, true, cond}
 use Rattle.std.specs.Prelude.{IfSome, IfNone, nat_lt}
 use Rattle.std.specs.Option.{option_map_or}
 use Rattle.std.specs.FinMap.{get}

@@ -1,20 +1,21 @@
-ghost use Rattle.std.specs.Prelude.{◌≡◌, ℕ, ◌-◌, ◌<◌, IfOk, OnErr};
+ghost use Rattle.std.specs.Prelude.{◌≡◌, ℕ, ◌-◌, ◌<◌, OnErr};
 ghost use Rattle.std.specs.FinMap as map;
 ghost use Rattle.nfs_proto.specs.declared.call.Call.TheVariants.{Create};
 ghost use Rattle.fs_rules.specs.Good.{IsGood};
 ghost use Rattle.fs_rules.specs.Respond.{respond, IsPick};
 ghost use Rattle.fs_tree.specs.Creating.{existing_of};
-ghost use Rattle.fs_tree.specs.Meets.{Meets};
+ghost use Rattle.fs_tree.specs.Meets.{Ends};
 ghost use Rattle.fs_tree.specs.NewFiles.{regular_of};
 
 use crate::change::put_file;
 use crate::lookup::found_at;
 use crate::new_file::{NewFile, make_new};
 use crate::response::{Change, Response};
+use crate::stop::Stop;
 use fs_checks::{Facts, Status, check_new, chosen, is_dots, is_set, size_alone};
 use fs_decisions::{check_limits, directory_of, file_at, number_named};
 use fs_edits::{take_out, with_attributes};
-use fs_rules::{Blocks, Content, Cred, Handle, NoMemory, PlainTree, Sattr, Stamp, number_at};
+use fs_rules::{Blocks, Content, Cred, Handle, PlainTree, Sattr, Stamp, number_at};
 use std::alloc::Global;
 
 /// The mode of a new regular file where none is set.
@@ -30,26 +31,21 @@ pub(crate) fn create(
     cred: &Cred,
     now: Stamp,
     pick: Option<u32>,
-) -> Result<Response, NoMemory>
+) -> Result<Response, Stop>
     requires { IsGood tree.old }
     ensures meets { (start : ℕ) → IsPick tree.old (Create dir.now name.now set.now) cred.now now start pick
-        → IfOk result (Meets tree.old (respond tree.old (Create dir.now name.now set.now) cred.now now start) tree.new) }
+        → Ends tree.old (respond tree.old (Create dir.now name.now set.now) cred.now now start) tree.new result }
     ensures err { OnErr result (tree.new ≡ tree.old) }
 {
     let number = number_at(dir);
-    let parent = match directory_of(tree, dir, name, Status::ACCES, cred) {
-        Ok(parent) => parent,
-        Err(status) => return Ok(Response::refused(status)),
-    };
+    let parent = directory_of(tree, dir, name, Status::ACCES, cred)?;
     if is_dots(name) {
-        return Ok(Response::refused(Status::EXIST));
+        return Err(Stop::Refused(Status::EXIST));
     }
     if let Some(there) = number_named(&parent.content, name) {
-        return Ok(set_size(alloc, tree, there, set, cred, now));
+        return set_size(alloc, tree, there, set, cred, now);
     }
-    if let Err(status) = check_new(set) {
-        return Ok(Response::refused(status));
-    }
+    check_new(set)?;
     let new = new_regular(alloc, set);
     make_new(alloc, tree, number, name, new, cred, now, pick)
 }
@@ -77,25 +73,23 @@ fn set_size(
     set: &Sattr,
     cred: &Cred,
     now: Stamp,
-) -> Response
+) -> Result<Response, Stop>
     requires { IsGood tree.old }
-    ensures { (start : ℕ) → Meets tree.old (existing_of tree.old number set.now cred.now now start) tree.new result }
+    ensures meets { (start : ℕ) → Ends tree.old (existing_of tree.old number set.now cred.now now start) tree.new result }
+    ensures err { OnErr result (tree.new ≡ tree.old) }
 {
     let Some(file) = file_at(tree, number) else {
-        return Response::refused(Status::STALE);
+        return Err(Stop::Refused(Status::STALE));
     };
-    if let Err(status) = Facts::of_file(file).check_existing(set, cred) {
-        return Response::refused(status);
-    }
+    Facts::of_file(file).check_existing(set, cred)?;
     if !is_set(set.size) {
-        return Response::told(found_at(tree, number));
+        return Ok(Response::told(found_at(tree, number)));
     }
-    if let Err(status) = check_limits(tree, file.change, 0) {
-        return Response::refused(status);
-    }
+    check_limits(tree, file.change, 0)?;
     let file = take_out(alloc, tree, number);
     let file = with_attributes(alloc, file, size_alone(set), now);
     let generation = file.generation;
     let attr = put_file(tree, number, file, now);
-    Response::found(number, generation, attr, Change { made: None })
+    let change = Change { made: None };
+    Ok(Response::found(number, generation, attr, change))
 }

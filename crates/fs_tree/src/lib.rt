@@ -20,6 +20,7 @@ mod rename;
 mod response;
 mod set_attr;
 mod space;
+mod stop;
 mod sym_link;
 mod tree;
 mod write;

@@ -1,15 +1,16 @@
-ghost use Rattle.std.specs.Prelude.{◌≡◌, ℕ, IfOk, OnErr};
+ghost use Rattle.std.specs.Prelude.{◌≡◌, ℕ, OnErr};
 ghost use Rattle.nfs_proto.specs.declared.call.Call.TheVariants.{MakeDir};
 ghost use Rattle.fs_rules.specs.Good.{IsGood};
 ghost use Rattle.fs_rules.specs.Respond.{respond, IsPick};
-ghost use Rattle.fs_tree.specs.Meets.{Meets};
+ghost use Rattle.fs_tree.specs.Meets.{Ends};
 ghost use Rattle.fs_tree.specs.NewFiles.{directory_of};
 
 use crate::new_file::{NewFile, make_new};
 use crate::response::Response;
+use crate::stop::Stop;
 use fs_checks::{Status, chosen};
 use fs_decisions::{directory_of, is_taken};
-use fs_rules::{Content, Cred, Handle, NoMemory, PlainTree, Sattr, Slots, Stamp, number_at};
+use fs_rules::{Content, Cred, Handle, PlainTree, Sattr, Slots, Stamp, number_at};
 use std::alloc::Global;
 
 /// The mode of a new directory where none is set.
@@ -25,19 +26,16 @@ pub(crate) fn make_dir(
     cred: &Cred,
     now: Stamp,
     pick: Option<u32>,
-) -> Result<Response, NoMemory>
+) -> Result<Response, Stop>
     requires { IsGood tree.old }
     ensures meets { (start : ℕ) → IsPick tree.old (MakeDir dir.now name.now set.now) cred.now now start pick
-        → IfOk result (Meets tree.old (respond tree.old (MakeDir dir.now name.now set.now) cred.now now start) tree.new) }
+        → Ends tree.old (respond tree.old (MakeDir dir.now name.now set.now) cred.now now start) tree.new result }
     ensures err { OnErr result (tree.new ≡ tree.old) }
 {
     let number = number_at(dir);
-    let parent = match directory_of(tree, dir, name, Status::ACCES, cred) {
-        Ok(parent) => parent,
-        Err(status) => return Ok(Response::refused(status)),
-    };
+    let parent = directory_of(tree, dir, name, Status::ACCES, cred)?;
     if is_taken(&parent.content, name) {
-        return Ok(Response::refused(Status::EXIST));
+        return Err(Stop::Refused(Status::EXIST));
     }
     let new = new_directory(alloc, number, set);
     make_new(alloc, tree, number, name, new, cred, now, pick)

@@ -1,4 +1,4 @@
-ghost use Rattle.std.specs.Prelude.{◌≡◌, ℕ, ◌*◌, ◌-◌, ◌^◌, ◌<◌, ◌≤◌, true, Some, IfOk, OnErr, if◌then◌else◌};
+ghost use Rattle.std.specs.Prelude.{◌≡◌, ℕ, ◌*◌, ◌-◌, ◌^◌, ◌<◌, ◌≤◌, true, Some, OnErr, if◌then◌else◌};
 ghost use Rattle.std.specs.FinMap as map;
 ghost use Rattle.nfs_proto.specs.declared.answer.Answer.TheVariants.{Plain};
 ghost use Rattle.nfs_proto.specs.declared.call.Call.{Call as ACall};
@@ -7,15 +7,16 @@ ghost use Rattle.fs_rules.specs.File.{used, is_directory};
 ghost use Rattle.fs_rules.specs.Good.{IsGood};
 ghost use Rattle.fs_rules.specs.Respond.{respond, IsPick};
 ghost use Rattle.fs_tree.specs.Creating.{found_of};
-ghost use Rattle.fs_tree.specs.Meets.{Meets};
+ghost use Rattle.fs_tree.specs.Meets.{Ends};
 ghost use Rattle.fs_tree.specs.NewFiles.{Makes, made_with};
 ghost use Rattle.fs_decisions.specs.Steps.{Fits};
 
 use crate::response::{Change, Response};
+use crate::stop::Stop;
 use fs_checks::{Facts, Kind, Status};
 use fs_decisions::{place_for, slots_with};
 use fs_edits::{kept_at, make_file};
-use fs_rules::{Answer, Content, Cred, File, Kept, NoMemory, PlainTree, Sattr, Stamp, handle_of};
+use fs_rules::{Answer, Content, Cred, File, Kept, PlainTree, Sattr, Stamp, handle_of};
 use std::alloc::Global;
 
 /// A file that CREATE, MKDIR or SYMLINK makes: all of it that its number does not decide.
@@ -59,24 +60,21 @@ pub(crate) fn make_new(
     cred: &Cred,
     now: Stamp,
     pick: Option<u32>,
-) -> Result<Response, NoMemory>
+) -> Result<Response, Stop>
     requires good { IsGood tree.old }
     requires there { (d : AFile) × (map.get tree.old.files parent ≡ Some d) × (is_directory d.content ≡ true) }
     requires gained { new.gained ≤ 1 }
     requires small { new.is_told ≡ true → 8 * used new.content < 2 ^ 32 }
     ensures meets { (call : ACall) → (d : AFile) → map.get tree.old.files parent ≡ Some d → Makes tree.old call cred.now now parent d name.now new
-        → (start : ℕ) → IsPick tree.old call cred.now now start pick → IfOk result (Meets tree.old (respond tree.old call cred.now now start) tree.new) }
+        → (start : ℕ) → IsPick tree.old call cred.now now start pick → Ends tree.old (respond tree.old call cred.now now start) tree.new result }
     ensures err { OnErr result (tree.new ≡ tree.old) }
 {
     let Some(dir) = tree.files.get(parent) else {
-        return Ok(Response::refused(Status::STALE));
+        return Err(Stop::Refused(Status::STALE));
     };
     let links = dir.links + new.gained;
     let slots = slots_with(&dir.content, name);
-    let number = match place_for(tree, dir, links, slots, new.content.used(), pick) {
-        Ok(number) => number,
-        Err(status) => return Ok(Response::refused(status)),
-    };
+    let number = place_for(tree, dir, links, slots, new.content.used(), pick)?;
     let is_told = new.is_told;
     let file = new.made(kept_at(tree, number), cred, now);
     let generation = file.generation;

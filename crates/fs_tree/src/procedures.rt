@@ -2,7 +2,7 @@ ghost use Rattle.std.specs.Prelude.{◌≡◌, ℕ, IfOk, OnErr};
 ghost use Rattle.nfs_proto.specs.Arguments.{IsFit};
 ghost use Rattle.fs_rules.specs.Good.{IsGood};
 ghost use Rattle.fs_rules.specs.Respond.{respond, IsPick};
-ghost use Rattle.fs_tree.specs.Meets.{Meets};
+ghost use Rattle.fs_tree.specs.Meets.{Meets, Ends};
 
 use crate::create::create;
 use crate::link::link;
@@ -13,13 +13,15 @@ use crate::remove::remove;
 use crate::rename::rename;
 use crate::response::Response;
 use crate::set_attr::set_attr;
+use crate::stop::Stop;
 use crate::sym_link::sym_link;
 use crate::write::write;
 use fs_checks::Removal;
 use fs_rules::{Answer, Call, Cred, NoMemory, PlainTree, Stamp};
 use std::alloc::Global;
 
-/// Carries out a call over a plain tree, procedure by procedure.
+/// Carries out a call over a plain tree, and answers it, also where it is refused. On [`NoMemory`] the tree is
+/// as before.
 pub(crate) fn carry_out(
     alloc: Global,
     tree: &mut PlainTree,
@@ -34,10 +36,32 @@ pub(crate) fn carry_out(
         → IfOk result (Meets tree.old (respond tree.old call.now cred.now now start) tree.new) }
     ensures err { OnErr result (tree.new ≡ tree.old) }
 {
+    match dispatch(alloc, tree, call, cred, now, pick) {
+        Ok(response) => Ok(response),
+        Err(Stop::Refused(status)) => Ok(Response::refused(status)),
+        Err(Stop::NoMemory) => Err(NoMemory),
+    }
+}
+
+// Carries out a call, procedure by procedure.
+fn dispatch(
+    alloc: Global,
+    tree: &mut PlainTree,
+    call: &Call,
+    cred: &Cred,
+    now: Stamp,
+    pick: Option<u32>,
+) -> Result<Response, Stop>
+    requires fits { IsFit call.now }
+    requires good { IsGood tree.old }
+    ensures meets { (start : ℕ) → IsPick tree.old call.now cred.now now start pick
+        → Ends tree.old (respond tree.old call.now cred.now now start) tree.new result }
+    ensures err { OnErr result (tree.new ≡ tree.old) }
+{
     match call {
         Call::Null | Call::Root | Call::WriteCache => Ok(Response::told(Answer::Empty)),
         Call::GetAttr { file } => Ok(Response::told(get_attr(tree, file))),
-        Call::SetAttr { file, set } => Ok(set_attr(alloc, tree, file, set, cred, now)),
+        Call::SetAttr { file, set } => set_attr(alloc, tree, file, set, cred, now),
         Call::Lookup { dir, name } => Ok(Response::told(lookup(tree, dir, name.as_slice(), cred))),
         Call::ReadLink { file } => Ok(Response::told(read_link(alloc, tree, file)?)),
         Call::Read {

@@ -1,14 +1,15 @@
-ghost use Rattle.std.specs.Prelude.{◌≡◌, ℕ, IfOk, OnErr};
+ghost use Rattle.std.specs.Prelude.{◌≡◌, ℕ, OnErr};
 ghost use Rattle.fs_rules.specs.Good.{IsGood};
 ghost use Rattle.fs_rules.specs.Respond.{respond};
 ghost use Rattle.fs_decisions.specs.Removing.{removal_of};
-ghost use Rattle.fs_tree.specs.Meets.{Meets};
+ghost use Rattle.fs_tree.specs.Meets.{Ends};
 
-use crate::response::{Change, Response};
+use crate::response::Response;
+use crate::stop::Stop;
 use fs_checks::Removal;
 use fs_decisions::removed;
 use fs_edits::take_entry;
-use fs_rules::{Answer, Cred, Handle, NoMemory, PlainTree, Stamp, number_at};
+use fs_rules::{Cred, Handle, PlainTree, Stamp, number_at};
 use std::alloc::Global;
 
 /// REMOVE and RMDIR: take a name of a file, which is no directory, away, or free a directory in which no
@@ -21,15 +22,12 @@ pub(crate) fn remove(
     name: &[u8],
     cred: &Cred,
     now: Stamp,
-) -> Result<Response, NoMemory>
+) -> Result<Response, Stop>
     requires { IsGood tree.old }
-    ensures meets { (start : ℕ) → IfOk result (Meets tree.old (respond tree.old (removal_of removal handle.now name.now) cred.now now start) tree.new) }
+    ensures meets { (start : ℕ) → Ends tree.old (respond tree.old (removal_of removal handle.now name.now) cred.now now start) tree.new result }
     ensures err { OnErr result (tree.new ≡ tree.old) }
 {
-    let file = match removed(tree, removal, handle, name, cred) {
-        Ok(file) => file,
-        Err(status) => return Ok(Response::refused(status)),
-    };
+    let file = removed(tree, removal, handle, name, cred)?;
     take_entry(alloc, tree, number_at(handle), name, file, now)?;
     Ok(Response::done())
 }

@@ -1,13 +1,13 @@
-ghost use Rattle.std.specs.Prelude.{◌-◌, ℕ, Some};
+ghost use Rattle.std.specs.Prelude.{◌≡◌, ◌-◌, ℕ, OnErr};
 ghost use Rattle.nfs_proto.specs.declared.call.Call.TheVariants.{SetAttr};
 ghost use Rattle.fs_rules.specs.Good.{IsGood};
 ghost use Rattle.fs_rules.specs.Attributes.{sets_something, with_attributes};
 ghost use Rattle.fs_rules.specs.Respond.{respond};
-ghost use Rattle.fs_tree.specs.Meets.{Meets};
-ghost use Rattle.fs_decisions.specs.Steps.{refused};
+ghost use Rattle.fs_tree.specs.Meets.{Ends};
 
 use crate::change::put_changed;
 use crate::response::Response;
+use crate::stop::Stop;
 use fs_checks::sets_something;
 use fs_decisions::may_set_attr;
 use fs_edits::{take_out, with_attributes};
@@ -22,18 +22,17 @@ pub(crate) fn set_attr(
     set: &Sattr,
     cred: &Cred,
     now: Stamp,
-) -> Response
+) -> Result<Response, Stop>
     requires { IsGood tree.old }
-    ensures { (start : ℕ) → Meets tree.old (respond tree.old (SetAttr handle.now set.now) cred.now now start) tree.new result }
+    ensures meets { (start : ℕ) → Ends tree.old (respond tree.old (SetAttr handle.now set.now) cred.now now start) tree.new result }
+    ensures err { OnErr result (tree.new ≡ tree.old) }
 {
     let number = number_at(handle);
-    let file = match may_set_attr(tree, handle, set, cred) {
-        Ok(file) => file,
-        Err(status) => return Response::refused(status),
-    };
+    let file = may_set_attr(tree, handle, set, cred)?;
     if !sets_something(set) {
-        return Response::told(Answer::Attr(file.fattr(number)));
+        return Ok(Response::told(Answer::Attr(file.fattr(number))));
     }
     let file = take_out(alloc, tree, number);
-    put_changed(tree, number, with_attributes(alloc, file, *set, now), now)
+    let changed = with_attributes(alloc, file, *set, now);
+    Ok(put_changed(tree, number, changed, now))
 }

@@ -1,13 +1,14 @@
-ghost use Rattle.std.specs.Prelude.{◌≡◌, ℕ, ◌≤◌, length, IfOk, OnErr};
+ghost use Rattle.std.specs.Prelude.{◌≡◌, ℕ, ◌≤◌, length, OnErr, IfOk};
 ghost use Rattle.nfs_proto.specs.declared.call.Call.TheVariants.{SymLink};
 ghost use Rattle.nfs_proto.specs.declared.sattr.Sattr.{Sattr};
 ghost use Rattle.fs_rules.specs.Good.{IsGood};
 ghost use Rattle.fs_rules.specs.Respond.{respond, IsPick};
-ghost use Rattle.fs_tree.specs.Meets.{Meets};
+ghost use Rattle.fs_tree.specs.Meets.{Ends};
 ghost use Rattle.fs_tree.specs.NewFiles.{link_of};
 
 use crate::new_file::{NewFile, make_new};
 use crate::response::Response;
+use crate::stop::Stop;
 use fs_checks::{Status, nothing_set};
 use fs_content::write_bytes;
 use fs_decisions::{directory_of, is_taken};
@@ -27,23 +28,20 @@ pub(crate) fn sym_link(
     cred: &Cred,
     now: Stamp,
     pick: Option<u32>,
-) -> Result<Response, NoMemory>
+) -> Result<Response, Stop>
     requires good { IsGood tree.old }
     requires few { length path.now ≤ 1024 }
     ensures meets { (set : Sattr) (start : ℕ) → IsPick tree.old (SymLink dir.now name.now path.now set) cred.now now start pick
-        → IfOk result (Meets tree.old (respond tree.old (SymLink dir.now name.now path.now set) cred.now now start) tree.new) }
+        → Ends tree.old (respond tree.old (SymLink dir.now name.now path.now set) cred.now now start) tree.new result }
     ensures err { OnErr result (tree.new ≡ tree.old) }
 {
     let number = number_at(dir);
-    let parent = match directory_of(tree, dir, name, Status::ACCES, cred) {
-        Ok(parent) => parent,
-        Err(status) => return Ok(Response::refused(status)),
-    };
+    let parent = directory_of(tree, dir, name, Status::ACCES, cred)?;
     if is_taken(&parent.content, name) {
-        return Ok(Response::refused(Status::EXIST));
+        return Err(Stop::Refused(Status::EXIST));
     }
     if path.is_empty() {
-        return Ok(Response::refused(Status::NOENT));
+        return Err(Stop::Refused(Status::NOENT));
     }
     let new = new_link(alloc, path)?;
     make_new(alloc, tree, number, name, new, cred, now, pick)

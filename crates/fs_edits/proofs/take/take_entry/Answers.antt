@@ -1,9 +1,9 @@
-use Rattle.std.proofs.Common.{◌≡◌, List, [], ◌∷◌, Bool, true, false, cond, Some, sym, ap, ◌∙◌, rules}
+use Rattle.std.proofs.Common.{◌≡◌, [], ◌∷◌, Bool, true, false, cond, Some, sym, ap, ◌∙◌, rules}
 use Rattle.std.specs.Prelude.{nat_lt}
 use Rattle.std.specs.FinMap.{get}
 use Rattle.fs_rules.specs.declared.file.File.{File}
 use Rattle.fs_rules.specs.File.{is_directory}
-use Rattle.fs_rules.specs.Edits.{Edit, Changed, Freed, edited}
+use Rattle.fs_rules.specs.Edits.{Changed, Freed, edited}
 use Rattle.fs_rules.specs.Names.{without_name, unlinked}
 use Rattle.fs_edits.proofs.TakingLemmas.{unlinked_none, taken_as, can_take_as}
 use Rattle.fs_edits.proofs.take.take_entry.Goals as goal

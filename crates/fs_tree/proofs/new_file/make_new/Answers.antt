@@ -9,11 +9,11 @@ use Rattle.fs_decisions.specs.Limits.{is_pick, made_limits}
 use Rattle.fs_edits.specs.Giving.{receiving}
 use Rattle.fs_tree.specs.NewFiles.{Makes, made_with}
 use Rattle.fs_decisions.specs.Steps.{Fits}
-use Rattle.fs_tree.proofs.ChangedLemmas.{meets_refused}
 use Rattle.fs_edits.proofs.PutLemmas.{one_file}
 use Rattle.fs_tree.proofs.MakeLimitLemmas.{may_make, free_pick}
 use Rattle.fs_tree.proofs.NewNameLemmas.{few_slots}
 use Rattle.fs_tree.proofs.NewFileLemmas.{is_one, new_fits, new_limited, new_meets}
+use Rattle.std.proofs.lemmas.Result.{err_from_is_err_and}
 use Rattle.fs_tree.proofs.new_file.make_new.Goals as goal
 
 pub overflow_add-links : goal.overflow_add-links
@@ -22,8 +22,8 @@ overflow_add-links c =
     let one = c.requires.gained in
     omega (arith, few, one)
 
-pub returns-in-Err-clause-meets : goal.returns-in-Err-clause-meets
-returns-in-Err-clause-meets c call other there makes start picked =
+pub returns-in_err-number-clause-meets : goal.returns-in_err-number-clause-meets
+returns-in_err-number-clause-meets c call other there makes start picked =
     let t = c.args.tree.now in
     let n = c.args.parent in
     let d = c.in-Some.dir.now in
@@ -32,11 +32,10 @@ returns-in-Err-clause-meets c call other there makes start picked =
     let new = c.args.new in
     let made : Makes t call c.args.cred.now c.args.now n d c.args.name.now new =
     subst (λ (f : File). Makes t call c.args.cred.now c.args.now n f c.args.name.now new) (sym (one_file t n n other d refl there (c.in-Some.ensures {u = tt}))) makes in
-    meets_refused t _ c.in-Err.status.0 c.refused-in-Err.result
-    (new_limited t call c.args.cred.now c.args.now n d c.args.name.now new made c.requires.good live is c.slots_with-slots.result
-    (λ m. sym (c.slots_with-slots.ensures m is (few_slots t n d c.requires.good live is))) start c.args.pick picked c.in-Err.status.0
-    (ap (λ (u : ℕ). made_limits t d (d.links + new.gained) c.slots_with-slots.result u c.args.pick) (sym c.used.ensures) ∙ (c.in-Err.ensures {u = tt}).err is))
-    c.refused-in-Err.ensures.answer c.refused-in-Err.ensures.change
+    let p = err_from_is_err_and c.from_residual.result c.from_residual.ensures.1 in
+    rw (p.1, p.2) (new_limited t call c.args.cred.now c.args.now n d c.args.name.now new made c.requires.good live is c.slots_with-slots.result
+    (λ m. sym (c.slots_with-slots.ensures m is (few_slots t n d c.requires.good live is))) start c.args.pick picked c.in_err-number.field-0.0.0
+    (ap (λ (u : ℕ). made_limits t d (d.links + new.gained) c.slots_with-slots.result u c.args.pick) (sym c.used.ensures) ∙ (c.in_err-number.ensures {u = tt}).err is))
 
 pub made-file-requires-clause-generation : goal.made-file-requires-clause-generation
 made-file-requires-clause-generation c =
@@ -46,10 +45,10 @@ made-file-requires-clause-generation c =
     let live : get t.files n ≡ Some d = sym (c.in-Some.ensures {u = tt}) in
     let is = is_one t n d c.requires.there.0 c.requires.there.1 c.requires.there.2 live in
     let new = c.args.new in
-    let k = c.in-Ok.ensures {u = tt} in
+    let k = c.in_ok-number.ensures {u = tt} in
     let limits = ap (λ (u : ℕ). made_limits t d (d.links + new.gained) c.slots_with-slots.result u c.args.pick) (sym c.used.ensures) ∙ k.ok is in
     let may = may_make t d (d.links + new.gained) c.slots_with-slots.result (used new.content) c.args.pick k.rises limits in
-    let free = free_pick t c.in-Ok.number (ap (is_pick t) (sym k.pick) ∙ may.picked) in
+    let free = free_pick t c.in_ok-number.number (ap (is_pick t) (sym k.pick) ∙ may.picked) in
     omega (arith, free.generation, ap (λ (k : Kept). k.generation) c.kept_at.ensures)
 
 pub made-file-requires-clause-change : goal.made-file-requires-clause-change
@@ -60,10 +59,10 @@ made-file-requires-clause-change c =
     let live : get t.files n ≡ Some d = sym (c.in-Some.ensures {u = tt}) in
     let is = is_one t n d c.requires.there.0 c.requires.there.1 c.requires.there.2 live in
     let new = c.args.new in
-    let k = c.in-Ok.ensures {u = tt} in
+    let k = c.in_ok-number.ensures {u = tt} in
     let limits = ap (λ (u : ℕ). made_limits t d (d.links + new.gained) c.slots_with-slots.result u c.args.pick) (sym c.used.ensures) ∙ k.ok is in
     let may = may_make t d (d.links + new.gained) c.slots_with-slots.result (used new.content) c.args.pick k.rises limits in
-    let free = free_pick t c.in-Ok.number (ap (is_pick t) (sym k.pick) ∙ may.picked) in
+    let free = free_pick t c.in_ok-number.number (ap (is_pick t) (sym k.pick) ∙ may.picked) in
     omega (arith, free.change, ap (λ (k : Kept). k.change) c.kept_at.ensures)
 
 pub answer_of-answer-requires : goal.answer_of-answer-requires
@@ -77,11 +76,11 @@ make_file-requires-clause-room c =
     let live : get t.files n ≡ Some d = sym (c.in-Some.ensures {u = tt}) in
     let is = is_one t n d c.requires.there.0 c.requires.there.1 c.requires.there.2 live in
     let new = c.args.new in
-    let k = c.in-Ok.ensures {u = tt} in
+    let k = c.in_ok-number.ensures {u = tt} in
     let limits = ap (λ (u : ℕ). made_limits t d (d.links + new.gained) c.slots_with-slots.result u c.args.pick) (sym c.used.ensures) ∙ k.ok is in
     let may = may_make t d (d.links + new.gained) c.slots_with-slots.result (used new.content) c.args.pick k.rises limits in
-    let free = free_pick t c.in-Ok.number (ap (is_pick t) (sym k.pick) ∙ may.picked) in
-    let slots = c.slots_with-slots.ensures c.in-Ok.number is (few_slots t n d c.requires.good live is) in
+    let free = free_pick t c.in_ok-number.number (ap (is_pick t) (sym k.pick) ∙ may.picked) in
+    let slots = c.slots_with-slots.ensures c.in_ok-number.number is (few_slots t n d c.requires.good live is) in
     (d, record { there = live; is = is; change = k.rises; slots = subst (λ (n : ℕ). n ≤ 7650) slots may.few_slots })
 
 pub make_file-requires-clause-free : goal.make_file-requires-clause-free
@@ -92,10 +91,10 @@ make_file-requires-clause-free c =
     let live : get t.files n ≡ Some d = sym (c.in-Some.ensures {u = tt}) in
     let is = is_one t n d c.requires.there.0 c.requires.there.1 c.requires.there.2 live in
     let new = c.args.new in
-    let k = c.in-Ok.ensures {u = tt} in
+    let k = c.in_ok-number.ensures {u = tt} in
     let limits = ap (λ (u : ℕ). made_limits t d (d.links + new.gained) c.slots_with-slots.result u c.args.pick) (sym c.used.ensures) ∙ k.ok is in
     let may = may_make t d (d.links + new.gained) c.slots_with-slots.result (used new.content) c.args.pick k.rises limits in
-    let free = free_pick t c.in-Ok.number (ap (is_pick t) (sym k.pick) ∙ may.picked) in
+    let free = free_pick t c.in_ok-number.number (ap (is_pick t) (sym k.pick) ∙ may.picked) in
     free.dead
 
 pub returns-clause-meets : goal.returns-clause-meets
@@ -106,11 +105,11 @@ returns-clause-meets c call other there makes start picked =
     let live : get t.files n ≡ Some d = sym (c.in-Some.ensures {u = tt}) in
     let is = is_one t n d c.requires.there.0 c.requires.there.1 c.requires.there.2 live in
     let new = c.args.new in
-    let k = c.in-Ok.ensures {u = tt} in
+    let k = c.in_ok-number.ensures {u = tt} in
     let limits = ap (λ (u : ℕ). made_limits t d (d.links + new.gained) c.slots_with-slots.result u c.args.pick) (sym c.used.ensures) ∙ k.ok is in
     let may = may_make t d (d.links + new.gained) c.slots_with-slots.result (used new.content) c.args.pick k.rises limits in
-    let free = free_pick t c.in-Ok.number (ap (is_pick t) (sym k.pick) ∙ may.picked) in
-    let m = c.in-Ok.number in
+    let free = free_pick t c.in_ok-number.number (ap (is_pick t) (sym k.pick) ∙ may.picked) in
+    let m = c.in_ok-number.number in
     let made : Makes t call c.args.cred.now c.args.now n d c.args.name.now new =
     subst (λ (f : File). Makes t call c.args.cred.now c.args.now n f c.args.name.now new) (sym (one_file t n n other d refl there (c.in-Some.ensures {u = tt}))) makes in
     let file_is : c.made-file.result ≡ made_with (kept_at t m) c.args.now c.args.cred.now new =

@@ -1,17 +1,16 @@
 use Rattle.std.proofs.Common.{◌≡◌, ◌≤◌, ℕ, List, length, sym, ap, subst, ◌∙◌}
-use Rattle.std.specs.Prelude.{IfOk}
 use Rattle.nfs_proto.specs.declared.answer.Answer.TheVariants.{Empty}
 use Rattle.nfs_proto.specs.declared.call.Call.{Call}
-use Rattle.nfs_proto.specs.declared.call.Call.TheVariants.{Create, SymLink, MakeDir, Rename}
+use Rattle.nfs_proto.specs.declared.call.Call.TheVariants.{Create, SymLink, MakeDir, Rename, Write, Link, Remove, RemoveDir}
 use Rattle.nfs_proto.specs.Arguments.{IsFit}
 use Rattle.fs_rules.specs.Respond.{respond, IsPick}
 use Rattle.fs_rules.specs.Reading.{lookup_answer}
 use Rattle.fs_tree.specs.Reading.{answer_about, lookup_row}
-use Rattle.fs_tree.specs.Meets.{Meets}
+use Rattle.fs_tree.specs.Meets.{Ends}
 use Rattle.fs_tree.proofs.RespondLemmas.{respond-get_attr, respond-stat_fs, respond-read_link, respond-read, respond-lookup, respond-read_dir}
 use Rattle.fs_tree.proofs.BuiltLemmas.{respond-nothing}
 use Rattle.fs_tree.proofs.MeetsLemmas.{meets_told}
-use Rattle.fs_tree.proofs.procedures.carry_out.Goals as goal
+use Rattle.fs_tree.proofs.procedures.dispatch.Goals as goal
 
 pub returns-in-GetAttr-clause-meets : goal.returns-in-GetAttr-clause-meets
 returns-in-GetAttr-clause-meets c start pick =
@@ -47,13 +46,13 @@ returns-in-Null-clause-meets c start pick =
 pub returns-in-Create-clause-meets : goal.returns-in-Create-clause-meets
 returns-in-Create-clause-meets c start =
     let t = c.args.tree.now in
-    let P : Call → Type 0 = λ k. IsPick t k c.args.cred.now c.args.now start c.args.pick → IfOk c.create.result (Meets t (respond t k c.args.cred.now c.args.now start) c.create.new.tree) in
+    let P : Call → Type 0 = λ k. IsPick t k c.args.cred.now c.args.now start c.args.pick → Ends t (respond t k c.args.cred.now c.args.now start) c.create.new.tree c.create.result in
     subst P (sym c.in-Create.is) (subst (λ (name : List ℕ). P (Create c.in-Create.dir name c.in-Create.set)) c.as_slice-in-Create.ensures.value (c.create.ensures.meets start))
 
 pub returns-in-Rename-clause-meets : goal.returns-in-Rename-clause-meets
 returns-in-Rename-clause-meets c start pick =
     let t = c.args.tree.now in
-    let P : Call → Type 0 = λ k. IfOk c.rename.result (Meets t (respond t k c.args.cred.now c.args.now start) c.rename.new.tree) in
+    let P : Call → Type 0 = λ k. Ends t (respond t k c.args.cred.now c.args.now start) c.rename.new.tree c.rename.result in
     subst P (sym c.in-Rename.is)
     (subst (λ (to_name : List ℕ). P (Rename c.in-Rename.from c.in-Rename.from_name c.in-Rename.to to_name)) c.as_slice-in-Rename-2.ensures.value
     (subst (λ (name : List ℕ). P (Rename c.in-Rename.from name c.in-Rename.to c.as_slice-in-Rename-2.result.now)) c.as_slice-in-Rename.ensures.value (c.rename.ensures.meets start)))
@@ -61,7 +60,7 @@ returns-in-Rename-clause-meets c start pick =
 pub returns-in-MakeDir-clause-meets : goal.returns-in-MakeDir-clause-meets
 returns-in-MakeDir-clause-meets c start =
     let t = c.args.tree.now in
-    let P : Call → Type 0 = λ k. IsPick t k c.args.cred.now c.args.now start c.args.pick → IfOk c.make_dir.result (Meets t (respond t k c.args.cred.now c.args.now start) c.make_dir.new.tree) in
+    let P : Call → Type 0 = λ k. IsPick t k c.args.cred.now c.args.now start c.args.pick → Ends t (respond t k c.args.cred.now c.args.now start) c.make_dir.new.tree c.make_dir.result in
     subst P (sym c.in-MakeDir.is) (subst (λ (name : List ℕ). P (MakeDir c.in-MakeDir.dir name c.in-MakeDir.set)) c.as_slice-in-MakeDir.ensures.value (c.make_dir.ensures.meets start))
 
 pub sym_link-requires-clause-few : goal.sym_link-requires-clause-few
@@ -72,14 +71,14 @@ sym_link-requires-clause-few c =
 pub returns-in-SymLink-clause-meets : goal.returns-in-SymLink-clause-meets
 returns-in-SymLink-clause-meets c start =
     let t = c.args.tree.now in
-    let P : Call → Type 0 = λ k. IsPick t k c.args.cred.now c.args.now start c.args.pick → IfOk c.sym_link.result (Meets t (respond t k c.args.cred.now c.args.now start) c.sym_link.new.tree) in
+    let P : Call → Type 0 = λ k. IsPick t k c.args.cred.now c.args.now start c.args.pick → Ends t (respond t k c.args.cred.now c.args.now start) c.sym_link.new.tree c.sym_link.result in
     subst P (sym c.in-SymLink.is)
     (subst (λ (path : List ℕ). P (SymLink c.in-SymLink.dir c.in-SymLink.name path c.in-SymLink.set)) c.as_slice-in-SymLink-2.ensures.value
     (subst (λ (name : List ℕ). P (SymLink c.in-SymLink.dir name c.as_slice-in-SymLink-2.result.now c.in-SymLink.set)) c.as_slice-in-SymLink.ensures.value (c.sym_link.ensures.meets c.in-SymLink.set start)))
 
 pub returns-in-SetAttr-clause-meets : goal.returns-in-SetAttr-clause-meets
 returns-in-SetAttr-clause-meets c start pick =
-    subst (λ (k : Call). Meets c.args.tree.now (respond c.args.tree.now k c.args.cred.now c.args.now start) c.set_attr.new.tree c.set_attr.result) (sym c.in-SetAttr.is) (c.set_attr.ensures start)
+    subst (λ (k : Call). Ends c.args.tree.now (respond c.args.tree.now k c.args.cred.now c.args.now start) c.set_attr.new.tree c.set_attr.result) (sym c.in-SetAttr.is) (c.set_attr.ensures.meets start)
 
 pub returns-in-Lookup-clause-meets : goal.returns-in-Lookup-clause-meets
 returns-in-Lookup-clause-meets c start pick =
@@ -98,3 +97,28 @@ returns-in_ok-read_dir-in-ReadDir-clause-meets c start pick =
     (ap (λ (k : Call). respond t k c.args.cred.now c.args.now start) c.in-ReadDir.is
     ∙ respond-read_dir t c.in-ReadDir.dir c.in-ReadDir.cookie c.in-ReadDir.count c.args.cred.now c.args.now start)
     (c.told-in-ReadDir.ensures.answer ∙ c.in_ok-read_dir-in-ReadDir.ensures {u = tt}) c.told-in-ReadDir.ensures.change
+
+pub returns-in-Write-clause-meets : goal.returns-in-Write-clause-meets
+returns-in-Write-clause-meets c start pick =
+    let t = c.args.tree.now in
+    let P : Call → Type 0 = λ k. Ends t (respond t k c.args.cred.now c.args.now start) c.write.new.tree c.write.result in
+    subst P (sym c.in-Write.is)
+    (subst (λ (bytes : List ℕ). P (Write c.in-Write.file c.in-Write.begin c.in-Write.offset c.in-Write.total bytes)) c.as_slice-in-Write.ensures.value (c.write.ensures.meets c.in-Write.begin c.in-Write.total start))
+
+pub returns-in-Link-clause-meets : goal.returns-in-Link-clause-meets
+returns-in-Link-clause-meets c start pick =
+    let t = c.args.tree.now in
+    let P : Call → Type 0 = λ k. Ends t (respond t k c.args.cred.now c.args.now start) c.link.new.tree c.link.result in
+    subst P (sym c.in-Link.is) (subst (λ (name : List ℕ). P (Link c.in-Link.file c.in-Link.dir name)) c.as_slice-in-Link.ensures.value (c.link.ensures.meets start))
+
+pub returns-in-Remove-clause-meets : goal.returns-in-Remove-clause-meets
+returns-in-Remove-clause-meets c start pick =
+    let t = c.args.tree.now in
+    let P : Call → Type 0 = λ k. Ends t (respond t k c.args.cred.now c.args.now start) c.remove.new.tree c.remove.result in
+    subst P (sym c.in-Remove.is) (subst (λ (name : List ℕ). P (Remove c.in-Remove.dir name)) c.as_slice-in-Remove.ensures.value (c.remove.ensures.meets start))
+
+pub returns-in-RemoveDir-clause-meets : goal.returns-in-RemoveDir-clause-meets
+returns-in-RemoveDir-clause-meets c start pick =
+    let t = c.args.tree.now in
+    let P : Call → Type 0 = λ k. Ends t (respond t k c.args.cred.now c.args.now start) c.remove-in-RemoveDir.new.tree c.remove-in-RemoveDir.result in
+    subst P (sym c.in-RemoveDir.is) (subst (λ (name : List ℕ). P (RemoveDir c.in-RemoveDir.dir name)) c.as_slice-in-RemoveDir.ensures.value (c.remove-in-RemoveDir.ensures.meets start))
