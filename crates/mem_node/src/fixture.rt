@@ -6,9 +6,9 @@ ghost use Rattle.mem_node.specs.Node.{setup_of};
 use crate::mem_node::MemNode;
 use crate::node_fault::NodeFault;
 use crate::replay::LOG_AT;
-use crate::setup::Setup;
 use disk_model::{Calls, Disk, PlanDisk};
 use gate_log::Log;
+use mem_rules::Setup;
 use mini_tx::{
     Actor, Bytes, Geometry4, Item, Message, NoMemory, Numbers, Placed, PlacedItem, Reads, TxId,
     Vote,

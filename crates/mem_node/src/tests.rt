@@ -1,4 +1,4 @@
-ghost use Rattle.mem_node.specs.Fit.{IsSetup};
+ghost use Rattle.mem_rules.specs.Fit.{IsSetup};
 
 use super::*;
 use crate::fixture::{Ask, SETUP, blank, count_entries, granted, id_of, loaded, prepare, voted};
