@@ -3,7 +3,7 @@ use Rattle.std.proofs.Common.{◌≡◌, ℕ, ap, subst, ◌∙◌}
 use Rattle.std.proofs.Math.Path.{fun_ext}
 use Rattle.mini_tx.specs.declared.tx_id.TxId.{TxId}
 use Rattle.mini_tx.specs.declared.vote.Vote.{Vote}
-use Rattle.mem_node.specs.State.{State}
+use Rattle.mem_rules.specs.State.{State}
 use Rattle.tx_rules.specs.Mini.{Setting, reads_of}
 use Rattle.tx_rules.specs.World.{after_all}
 use Rattle.tx_actors.specs.Node.{View, view, IsAlike}
@@ -28,7 +28,7 @@ module _ (s : Setting) (m : ℕ) where
             let both = shows.votes c floor is in
             (both.0, vote_alike v (record { records = v.records; image = u.image; seen = u.seen }) floor.id floor.vote (alike.seen (number floor.id)) both.1);
         kept = shows.kept;
-        distinct = shows.distinct;
+        ascending = shows.ascending;
         records = λ k h.
             let shown = shows.records k h in
             record {

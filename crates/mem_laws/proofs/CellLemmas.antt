@@ -1,5 +1,5 @@
 -- Identifiers as numbers keep their order, and ranges as cells what they share.
-use Rattle.std.proofs.Common.{◌≡◌, ℕ, zero, suc, ◌+◌, ◌<◌, ◌≤◌, nat_lt, ◌==◌, Bool, true, false, ◌&&◌, ◌||◌, List, [], ◌∷◌, inl, inr, refl, sym, arith}
+use Rattle.std.proofs.Common.{◌≡◌, ℕ, zero, suc, ◌+◌, ◌<◌, ◌≤◌, nat_lt, ◌==◌, Bool, true, false, ◌&&◌, List, [], ◌∷◌, inl, inr, refl, sym, arith}
 use Rattle.std.specs.Prelude.{max, min}
 use Rattle.std.specs.List.{list_any}
 use Rattle.std.proofs.lemmas.Bool.{ltb-true, lt-ltb, eqb-true, eq-eqb, or_cases, or_left, or_right, and_parts, and_from, cases_eq, true_from_ne_false}
@@ -7,9 +7,9 @@ use Rattle.mini_tx.specs.declared.range.Range.{Range}
 use Rattle.mini_tx.specs.declared.tx_id.TxId.{TxId}
 use Rattle.mini_tx.specs.Laws.{IsTypedId}
 use Rattle.lock_table.specs.Held.{overlap}
-use Rattle.lock_table.specs.Order.{IsBefore}
-use Rattle.mem_node.specs.Identifiers.{precedes, is_same}
-use Rattle.mem_node.specs.Rules.{meet}
+use Rattle.mem_rules.specs.Identifiers.{precedes, is_same}
+use Rattle.mem_rules.specs.Rules.{meet}
+use Rattle.mem_rules.proofs.IdentifierLemmas.{before_of, of_before}
 use Rattle.tx_rules.specs.Mini.{In}
 use Rattle.tx_rules.proofs.FaithfulLemmas.{in_front, in_back, in_either}
 use Rattle.tx_rules.specs.Lists as tests
@@ -24,31 +24,6 @@ same_tests false true forth back = back refl
 same_tests false false forth back = refl
 
 -- ---- identifiers
-
-before_of : (a b : TxId) → precedes a b ≡ true → IsBefore a b
-before_of a b h = elim (or_cases (nat_lt a.coord b.coord) ((a.coord == b.coord) && (nat_lt a.boot b.boot || ((a.boot == b.boot) && nat_lt a.seq b.seq))) h) [
-  | inl less ↦ inl (ltb-true a.coord b.coord less)
-  | inr later ↦
-      let one = and_parts (a.coord == b.coord) (nat_lt a.boot b.boot || ((a.boot == b.boot) && nat_lt a.seq b.seq)) later in
-      inr (
-        eqb-true a.coord b.coord one.0,
-        elim (or_cases (nat_lt a.boot b.boot) ((a.boot == b.boot) && nat_lt a.seq b.seq) one.1) [
-          | inl less ↦ inl (ltb-true a.boot b.boot less)
-          | inr last ↦
-              let two = and_parts (a.boot == b.boot) (nat_lt a.seq b.seq) last in
-              inr (eqb-true a.boot b.boot two.0, ltb-true a.seq b.seq two.1)
-        ],
-      )
-]
-
-of_before : (a b : TxId) → IsBefore a b → precedes a b ≡ true
-of_before a b (inl less) = or_left (nat_lt a.coord b.coord) _ (lt-ltb a.coord b.coord less)
-of_before a b (inr (same, inl less)) =
-    or_right (nat_lt a.coord b.coord) _ (and_from (a.coord == b.coord) _ (eq-eqb a.coord b.coord same) (or_left (nat_lt a.boot b.boot) _ (lt-ltb a.boot b.boot less)))
-of_before a b (inr (same, inr (alike, less))) =
-    or_right (nat_lt a.coord b.coord) _
-    (and_from (a.coord == b.coord) _ (eq-eqb a.coord b.coord same)
-    (or_right (nat_lt a.boot b.boot) _ (and_from (a.boot == b.boot) _ (eq-eqb a.boot b.boot alike) (lt-ltb a.seq b.seq less))))
 
 -- numbers are ordered as identifiers are
 pub order_is : (a b : TxId) → IsTypedId a → IsTypedId b → nat_lt (number a) (number b) ≡ precedes a b

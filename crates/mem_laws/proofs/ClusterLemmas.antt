@@ -2,7 +2,7 @@
 use Rattle.std.proofs.Common.{◌≡◌, ℕ, zero, suc, ◌+◌, ◌<◌, Bool, cond, List, [], ◌∷◌, ◌++◌, map, get_or, Option, Some, refl, sym, ap, subst, ◌∙◌, arith, append-nil}
 use Rattle.std.specs.List.{slice_get}
 use Rattle.std.proofs.lemmas.Bool.{eq-eqb, ne_eqb}
-use Rattle.mem_node.specs.State.{State}
+use Rattle.mem_rules.specs.State.{State}
 use Rattle.tx_rules.specs.Decision.{Record, At}
 use Rattle.tx_rules.specs.World.{opened}
 use Rattle.tx_actors.specs.Node.{own, View, view}

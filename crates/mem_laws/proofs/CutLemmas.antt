@@ -9,10 +9,10 @@ use Rattle.mini_tx.specs.declared.held_answer.HeldAnswer.TheVariants as hold
 use Rattle.mini_tx.specs.declared.message.Message.TheVariants as sent
 use Rattle.mini_tx.specs.declared.tx_id.TxId.{TxId}
 use Rattle.mini_tx.specs.Laws.{IsTypedCut}
-use Rattle.mem_node.specs.declared.kept.Kept.{Kept}
-use Rattle.mem_node.specs.Identifiers.{cut_precedes, is_same_cut}
-use Rattle.mem_node.specs.Rules as node
-use Rattle.mem_node.specs.State.{raised_cut}
+use Rattle.mem_rules.specs.declared.kept.Kept.{Kept}
+use Rattle.mem_rules.specs.Identifiers.{cut_precedes, is_same_cut}
+use Rattle.mem_rules.specs.Rules as node
+use Rattle.mem_rules.specs.State.{raised_cut}
 use Rattle.tx_rules.specs.Mini.{In, Setting}
 use Rattle.tx_rules.specs.Decision.{Record}
 use Rattle.tx_actors.specs.Node as machine
@@ -208,7 +208,7 @@ module _ (s : Setting) (m size : ℕ) (n : node.Node) (k : Cuts) (shown : ShowsW
     floors = shown.state.floors;
     votes = shown.state.votes;
     kept = shown.state.kept;
-    distinct = shown.state.distinct;
+    ascending = shown.state.ascending;
     records = shown.state.records;
     within = shown.state.within;
     undecided = shown.state.undecided;

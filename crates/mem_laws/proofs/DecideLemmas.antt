@@ -7,13 +7,13 @@ use Rattle.mini_tx.specs.declared.tx_id.TxId.{TxId}
 use Rattle.mini_tx.specs.declared.vote.Vote.{Vote}
 use Rattle.mini_tx.specs.declared.vote.Vote.TheVariants as vote
 use Rattle.mini_tx.specs.EntryGrammar.{is_granted}
-use Rattle.mem_node.specs.declared.floor.Floor.{Floor}
-use Rattle.mem_node.specs.declared.kept.Kept.{Kept}
-use Rattle.mem_node.specs.declared.standing.Standing.{Standing}
-use Rattle.mem_node.specs.declared.standing.Standing.TheVariants.{Above, At, Below}
-use Rattle.mem_node.specs.Identifiers.{precedes, is_same}
-use Rattle.mem_node.specs.Rules as node
-use Rattle.mem_node.specs.State.{floor_at, kept_of}
+use Rattle.mem_rules.specs.declared.floor.Floor.{Floor}
+use Rattle.mem_rules.specs.declared.kept.Kept.{Kept}
+use Rattle.mem_rules.specs.declared.standing.Standing.{Standing}
+use Rattle.mem_rules.specs.declared.standing.Standing.TheVariants.{Above, At, Below}
+use Rattle.mem_rules.specs.Identifiers.{precedes, is_same}
+use Rattle.mem_rules.specs.Rules as node
+use Rattle.mem_rules.specs.State.{floor_at, kept_of}
 use Rattle.tx_rules.specs.Mini.{Setting}
 use Rattle.tx_rules.specs.Decision.{Commit, Abort, Forget}
 use Rattle.tx_rules.specs.World.{Done, AnswerOk, AnswerAbort}

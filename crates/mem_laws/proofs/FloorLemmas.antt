@@ -8,12 +8,12 @@ use Rattle.mini_tx.specs.declared.vote.Vote.{Vote}
 use Rattle.mini_tx.specs.declared.vote.Vote.TheVariants as vote
 use Rattle.mini_tx.specs.EntryGrammar.{is_granted}
 use Rattle.mini_tx.specs.Laws.{IsTypedId}
-use Rattle.mem_node.specs.declared.floor.Floor.{Floor}
-use Rattle.mem_node.specs.declared.kept.Kept.{Kept}
-use Rattle.mem_node.specs.declared.standing.Standing.TheVariants.{Above, At, Below}
-use Rattle.mem_node.specs.Identifiers.{precedes, is_same}
-use Rattle.mem_node.specs.Rules as node
-use Rattle.mem_node.specs.State.{floor_at, raised, raise, kept_of, after_one}
+use Rattle.mem_rules.specs.declared.floor.Floor.{Floor}
+use Rattle.mem_rules.specs.declared.kept.Kept.{Kept}
+use Rattle.mem_rules.specs.declared.standing.Standing.TheVariants.{Above, At, Below}
+use Rattle.mem_rules.specs.Identifiers.{precedes, is_same}
+use Rattle.mem_rules.specs.Rules as node
+use Rattle.mem_rules.specs.State.{floor_at, raised, raise, kept_of, after_one}
 use Rattle.tx_rules.specs.Mini.{In, Setting}
 use Rattle.tx_rules.specs.Decision.{Reason, Forced, Held, Locked, Mismatch, Record, Refuse}
 use Rattle.tx_actors.specs.Node as machine
@@ -132,7 +132,7 @@ module _ (s : Setting) (m : ℕ) (n : node.Node) (v : machine.View) (id : TxId) 
             floors = moves;
             votes = votes (after_record s m v (Refuse t why)) (λ c f was other. (named.shows.votes c f was).1);
             kept = named.shows.kept;
-            distinct = named.shows.distinct;
+            ascending = named.shows.ascending;
             records = λ k h.
                 let shown = named.shows.records k h in
                 record {

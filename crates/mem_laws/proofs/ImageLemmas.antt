@@ -10,8 +10,8 @@ use Rattle.mini_tx.specs.declared.placed_item.PlacedItem.{PlacedItem}
 use Rattle.mini_tx.specs.declared.write_at.WriteAt.{WriteAt}
 use Rattle.mini_tx.specs.FlatMemory.{with_bytes}
 use Rattle.mini_tx.specs.Minitransactions.{place_of, bytes_of}
-use Rattle.mem_node.specs.Fit.{IsInside, IsWriteInside}
-use Rattle.mem_node.specs.Items.{written, write_before, writes_of}
+use Rattle.mem_rules.specs.Fit.{IsInside, IsWriteInside}
+use Rattle.mem_rules.specs.Items.{written, write_before, writes_of}
 use Rattle.tx_rules.specs.Mini.{In}
 use Rattle.mem_laws.specs.Cells.{cells_from, byte_in, later, written_in}
 use Rattle.mem_laws.proofs.CellLemmas.{in_from}

@@ -4,9 +4,9 @@ use Rattle.std.specs.Prelude.{option_map}
 use Rattle.std.proofs.lemmas.Bool.{eqb-true, ltb-true, ltb-false}
 use Rattle.mini_tx.specs.declared.tx_id.TxId.{TxId}
 use Rattle.mini_tx.specs.Laws.{IsTypedId}
-use Rattle.mem_node.specs.declared.kept.Kept.{Kept}
-use Rattle.mem_node.specs.Identifiers.{precedes}
-use Rattle.mem_node.specs.Rules.{least_of, least_with}
+use Rattle.mem_rules.specs.declared.kept.Kept.{Kept}
+use Rattle.mem_rules.specs.Identifiers.{precedes}
+use Rattle.mem_rules.specs.Rules.{least_of, least_with}
 use Rattle.tx_rules.specs.Mini.{In}
 use Rattle.tx_actors.specs.Node.{sorted_in, sorted, first_of_list}
 use Rattle.mem_laws.specs.Cells.{number}

@@ -7,13 +7,14 @@ use Rattle.mini_tx.specs.declared.message.Message as sent_type
 use Rattle.mini_tx.specs.declared.message.Message.TheVariants as sent
 use Rattle.mini_tx.specs.declared.tx_id.TxId.{TxId}
 use Rattle.mini_tx.specs.declared.vote.Vote.TheVariants as vote
-use Rattle.mem_node.specs.declared.kept.Kept.{Kept}
-use Rattle.mem_node.specs.declared.standing.Standing.{Standing}
-use Rattle.mem_node.specs.declared.standing.Standing.TheVariants.{Above, At, Below}
-use Rattle.mem_node.specs.Identifiers.{is_same}
-use Rattle.mem_node.specs.Items.{written}
-use Rattle.mem_node.specs.Rules as node
-use Rattle.mem_node.specs.State.{State, kept_of, decided, committed, writes_kept, after_one}
+use Rattle.mem_rules.specs.declared.kept.Kept.{Kept}
+use Rattle.mem_rules.specs.declared.standing.Standing.{Standing}
+use Rattle.mem_rules.specs.declared.standing.Standing.TheVariants.{Above, At, Below}
+use Rattle.mem_rules.specs.Identifiers.{is_same}
+use Rattle.mem_rules.specs.Items.{written}
+use Rattle.mem_rules.specs.Rules as node
+use Rattle.mem_rules.specs.State.{State, kept_of, with_decision, decided, committed, writes_kept, after_one}
+use Rattle.mem_rules.proofs.GoodLemmas.{ascending_decided, ascending_left}
 use Rattle.tx_rules.specs.Mini.{In, Setting}
 use Rattle.tx_rules.specs.Decision.{Record, Commit, Abort, Forget}
 use Rattle.tx_rules.specs.World.{World, after_all}
@@ -23,7 +24,7 @@ use Rattle.tx_actors.specs.Node.{after_record, after_records}
 use Rattle.tx_actors.proofs.AlikeLemmas.{alike_after_all, alike_self}
 use Rattle.tx_actors.proofs.TestLemmas.{In-filter, In-map, filter-In, map-In, not_two}
 use Rattle.mem_laws.specs.Cells.{number, cells_from, written_in}
-use Rattle.mem_laws.specs.Shown.{AreDistinct, decision_on, IsShownRecord, Shows, records_of}
+use Rattle.mem_laws.specs.Shown.{decision_on, IsShownRecord, Shows, records_of}
 use Rattle.mem_laws.specs.Laws.{IsNamed, DecisionsLeaveTheSame, ForgettingLeavesTheSame, AnswersLeaveTheSame}
 use Rattle.mem_laws.proofs.AlikeLemmas.{shows_alike}
 use Rattle.mem_laws.proofs.CellLemmas.{number_same, sameness_is}
@@ -35,25 +36,6 @@ use Rattle.mem_laws.proofs.WantLemmas.{IsImage}
 
 one_bool : (a b : Bool) → ◌≡◌ {A = Option Bool} (Some a) (Some b) → a ≡ b
 one_bool a b e = cc
-
--- ---- distinct records
-
-distinct_map : (f : Kept → Kept) → ((k : Kept) → (f k).id ≡ k.id) → (kept : List Kept) → AreDistinct kept → AreDistinct (map f kept)
-distinct_map f same [] distinct = tt
-distinct_map f same (k ∷ kept) distinct = (
-  λ other h e.
-      let from = In-map f other kept h in
-      distinct.0 from.0 from.1 (ap number (sym (same from.0)) ∙ ap (λ (x : Kept). number x.id) (sym from.2) ∙ e ∙ ap number (same k)),
-  distinct_map f same kept distinct.1,
-)
-
-distinct_filter : (test : Kept → Bool) (kept : List Kept) → AreDistinct kept → AreDistinct (filter test kept)
-distinct_filter test [] distinct = tt
-distinct_filter test (k ∷ kept) distinct = go (test k) (distinct_filter test kept distinct.1)
-  where
-    go : (b : Bool) → AreDistinct (filter test kept) → AreDistinct (cond b (k ∷ filter test kept) (filter test kept))
-    go true rest = (λ other h. distinct.0 other (In-filter test other kept h).0, rest)
-    go false rest = rest
 
 -- ---- tests
 
@@ -90,16 +72,16 @@ module _ (s : Setting) (m : ℕ) (n : node.Node) (v : machine.View) (id : TxId) 
   same_id : (commit : Bool) (k : Kept) → (decided id commit k).id ≡ k.id
   same_id commit k = go (is_same k.id id)
     where
-      go : (b : Bool) → (cond b (record k { decision = Some commit }) k).id ≡ k.id
+      go : (b : Bool) → (cond b (with_decision commit k) k).id ≡ k.id
       go true = refl
       go false = refl
 
-  same_writes : (commit : Bool) (k : Kept) → (decided id commit k).writes ≡ k.writes
-  same_writes commit k = go (is_same k.id id)
+  less_writes : (commit : Bool) (size : ℕ) (k : Kept) → AreWritesWithin size k.writes → AreWritesWithin size (decided id commit k).writes
+  less_writes commit size k all = go (is_same k.id id)
     where
-      go : (b : Bool) → (cond b (record k { decision = Some commit }) k).writes ≡ k.writes
-      go true = refl
-      go false = refl
+      go : (b : Bool) → AreWritesWithin size (cond b (with_decision commit k) k).writes
+      go true = tt
+      go false = all
 
   still_found : (commit : Bool) (kept : List Kept) (other : TxId) → is_some (kept_of (map (decided id commit) kept) other) ≡ is_some (kept_of kept other)
   still_found commit [] other = refl
@@ -137,7 +119,7 @@ module _ (s : Setting) (m : ℕ) (n : node.Node) (v : machine.View) (id : TxId) 
           before : IsShownRecord s m v k
           before = named.shows.records k h
 
-          go : (b : Bool) → is_same k.id id ≡ b → IsShownRecord s m now (cond b (record k { decision = Some commit }) k)
+          go : (b : Bool) → is_same k.id id ≡ b → IsShownRecord s m now (cond b (with_decision commit k) k)
           go true same = record {
             typed = before.typed;
             granted = before.granted;
@@ -172,7 +154,7 @@ module _ (s : Setting) (m : ℕ) (n : node.Node) (v : machine.View) (id : TxId) 
             floors = λ c. is.floors c ∙ named.shows.floors c;
             votes = named.shows.votes;
             kept = λ other typed. is.kept (number other) ∙ named.shows.kept other typed ∙ sym (still_found commit n.state.kept other);
-            distinct = distinct_map (decided id commit) (same_id commit) n.state.kept named.shows.distinct;
+            ascending = ascending_decided id commit n.state.kept named.shows.ascending;
             typed = λ u keeps.
                 let there = named.shows.typed u (sym (is.kept u) ∙ keeps) in
                 (decided id commit there.0, map-In (decided id commit) there.0 n.state.kept there.1, ap number (same_id commit there.0) ∙ there.2);
@@ -181,8 +163,8 @@ module _ (s : Setting) (m : ℕ) (n : node.Node) (v : machine.View) (id : TxId) 
                 subst (λ (x : Kept). IsShownRecord s m now x) (sym from.2) (shown from.0 from.1);
             within = λ k h.
                 let from = In-map (decided id commit) k n.state.kept h in
-                subst (λ ws. AreWritesWithin (length image) ws) (sym (ap (λ (x : Kept). x.writes) from.2 ∙ same_writes commit from.0))
-                (same_size from.0.writes (length n.state.image) (length image) (sym is.sized) (named.shows.within from.0 from.1));
+                subst (λ (x : Kept). AreWritesWithin (length image) x.writes) (sym from.2)
+                (less_writes commit (length image) from.0 (same_size from.0.writes (length n.state.image) (length image) (sym is.sized) (named.shows.within from.0 from.1)));
             undecided = λ u open_.
                 let both = and_parts (machine.is_undecided v.records u) (not (t == u)) (sym (is.undecided u) ∙ open_) in
                 let there = named.shows.undecided u both.0 in
@@ -291,7 +273,7 @@ module _ (s : Setting) (m : ℕ) (n : node.Node) (v : machine.View) (id : TxId) 
               locked = shown.locked;
               written = shown.written;
             };
-        distinct = distinct_filter stays n.state.kept named.shows.distinct;
+        ascending = ascending_left stays n.state.kept named.shows.ascending;
         typed = λ u keeps.
             let both = and_parts (machine.is_kept s m v.records u) (not (t == u)) (sym (less_kept (t == u) (machine.has_grant v.records u) _ (machine.has_forget v.records u)) ∙ keeps) in
             let there = named.shows.typed u both.0 in

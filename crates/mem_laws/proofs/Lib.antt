@@ -15,3 +15,4 @@ pub mod LoadLemmas
 pub mod MiniLemmas
 pub mod PartLemmas
 pub mod ClusterLemmas
+pub mod StepLemmas

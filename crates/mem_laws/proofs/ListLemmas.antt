@@ -1,10 +1,13 @@
 -- The records that are kept, in the order of their identifiers, are the machine's.
 use Rattle.std.proofs.Common.{◌≡◌, ℕ, zero, suc, ◌<◌, nat_lt, ◌==◌, Bool, true, false, cond, List, [], ◌∷◌, map, filter, take, inl, inr, refl, sym, ap, subst, ◌∙◌, arith}
-use Rattle.std.proofs.lemmas.Bool.{ltb-true, ltb-false, eqb-false, ne_eqb, and_parts}
+use Rattle.std.specs.List.{AllByRecursion}
+use Rattle.std.proofs.lemmas.Bool.{ltb-true, ltb-false, eqb-false, and_parts}
 use Rattle.mini_tx.specs.Laws.{IsTypedId}
-use Rattle.mem_node.specs.declared.kept.Kept.{Kept}
-use Rattle.mem_node.specs.Identifiers.{precedes}
-use Rattle.mem_node.specs.Rules as node
+use Rattle.mem_rules.specs.declared.kept.Kept.{Kept}
+use Rattle.mem_rules.specs.Identifiers.{precedes}
+use Rattle.mem_rules.specs.Good.{AreAscending}
+use Rattle.mem_rules.specs.Rules as node
+use Rattle.mem_rules.specs.State.{placed_in}
 use Rattle.tx_rules.specs.Mini.{In, Setting, participants_at}
 use Rattle.tx_actors.specs.Node as machine
 use Rattle.tx_actors.specs.Node.{sorted_in, sorted}
@@ -12,7 +15,7 @@ use Rattle.tx_actors.proofs.TestLemmas.{In-sorted_in, In-sorted, sorted-In, In-m
 use Rattle.tx_actors.proofs.RecordLemmas.{has_grant-In, In-granted_in}
 use Rattle.mem_laws.specs.Cells.{number}
 use Rattle.mem_laws.specs.Cuts.{shown_kept, ListsAreTheMachines}
-use Rattle.mem_laws.specs.Shown.{AreDistinct, Shows}
+use Rattle.mem_laws.specs.Shown.{Shows}
 use Rattle.mem_laws.proofs.CellLemmas.{order_is}
 use Rattle.mem_laws.proofs.FloorLemmas.{found_in}
 
@@ -63,43 +66,45 @@ same_ascending (x ∷ xs) (y ∷ ys) up down forth back =
 abbrev number_of : Kept → ℕ
 number_of k = number k.id
 
-placed_is : (k : Kept) (others : List Kept) → IsTypedId k.id → ((o : Kept) → In o others → IsTypedId o.id × ¬ (number k.id ≡ number o.id))
-    → map number_of (node.placed_in k others) ≡ sorted_in (number k.id) (map number_of others)
-placed_is k [] typed apart = refl
-placed_is k (o ∷ others) typed apart =
-    go (precedes o.id k.id) (nat_lt (number o.id) (number k.id)) (number k.id == number o.id) (order_is o.id k.id (apart o (inl refl)).0 typed)
-    (ne_eqb (number k.id) (number o.id) (apart o (inl refl)).1) (placed_is k others typed (λ x h. apart x (inr h)))
-  where
-    go : (a b c : Bool) → b ≡ a → c ≡ false → map number_of (node.placed_in k others) ≡ sorted_in (number k.id) (map number_of others)
-        → map number_of (cond a (o ∷ node.placed_in k others) (k ∷ o ∷ others))
-        ≡ cond b (number o.id ∷ sorted_in (number k.id) (map number_of others)) (cond c (number o.id ∷ map number_of others) (number k.id ∷ number o.id ∷ map number_of others))
-    go true true c e differ rest = ap (λ (ns : List ℕ). number o.id ∷ ns) rest
-    go false false false e differ rest = refl
-    go false false true e differ rest = absurd cc
-    go true false c e differ rest = absurd cc
-    go false true c e differ rest = absurd cc
-
-In-placed : (x k : Kept) (others : List Kept) → In x (node.placed_in k others) → In x (k ∷ others)
+pub In-placed : (x k : Kept) (others : List Kept) → In x (placed_in k others) → In x (k ∷ others)
 In-placed x k [] h = h
 In-placed x k (o ∷ others) h = go (precedes o.id k.id) (In-placed x k others) h
   where
-    go : (b : Bool) → (In x (node.placed_in k others) → In x (k ∷ others)) → In x (cond b (o ∷ node.placed_in k others) (k ∷ o ∷ others)) → In x (k ∷ o ∷ others)
+    go : (b : Bool) → (In x (placed_in k others) → In x (k ∷ others)) → In x (cond b (o ∷ placed_in k others) (k ∷ o ∷ others)) → In x (k ∷ o ∷ others)
     go true rest e = elim e [
       | inl is ↦ inr (inl is)
       | inr later ↦ elim (rest later) [ inl is ↦ inl is | inr old ↦ inr (inr old) ]
     ]
     go false rest e = e
 
-In-ascending : (x : Kept) (kept : List Kept) → In x (node.ascending kept) → In x kept
-In-ascending x [] h = h
-In-ascending x (k ∷ kept) h = elim (In-placed x k (node.ascending kept) h) [ inl e ↦ inl e | inr rest ↦ inr (In-ascending x kept rest) ]
+pub placed-In : (x k : Kept) (others : List Kept) → In x (k ∷ others) → In x (placed_in k others)
+placed-In x k [] h = h
+placed-In x k (o ∷ others) h = go (precedes o.id k.id) (placed-In x k others) h
+  where
+    go : (b : Bool) → (In x (k ∷ others) → In x (placed_in k others)) → In x (k ∷ o ∷ others) → In x (cond b (o ∷ placed_in k others) (k ∷ o ∷ others))
+    go true rest e = elim e [
+      | inl is ↦ inr (rest (inl is))
+      | inr later ↦ elim later [ inl is ↦ inl is | inr old ↦ inr (rest (inr old)) ]
+    ]
+    go false rest e = e
 
-ascending_is : (kept : List Kept) → ((k : Kept) → In k kept → IsTypedId k.id) → AreDistinct kept → map number_of (node.ascending kept) ≡ sorted (map number_of kept)
-ascending_is [] typed distinct = refl
-ascending_is (k ∷ kept) typed distinct =
-    placed_is k (node.ascending kept) (typed k (inl refl))
-    (λ o h. let old = In-ascending o kept h in (typed o (inr old), λ e. distinct.0 o old (sym e)))
-    ∙ ap (sorted_in (number k.id)) (ascending_is kept (λ x h. typed x (inr h)) distinct.1)
+-- what holds of each holds of one of them
+of_all : (P : Kept → Type 0) (x : Kept) (kept : List Kept) → AllByRecursion P kept → In x kept → P x
+of_all P x [] all h = absurd h
+of_all P x (k ∷ kept) all h = elim h [ inl e ↦ subst P (sym e) all.0 | inr rest ↦ of_all P x kept all.1 rest ]
+
+-- ascending records have ascending numbers
+pub numbers_ascend : (kept : List Kept) → ((k : Kept) → In k kept → IsTypedId k.id) → AreAscending kept → Ascends (map number_of kept)
+numbers_ascend [] typed ascending = tt
+numbers_ascend (k ∷ kept) typed ascending = (
+  λ y h.
+      let from = In-map number_of y kept h in
+      let before = of_all (λ (o : Kept). precedes k.id o.id ≡ true) from.0 kept ascending.0 from.1 in
+      let less = ltb-true (number k.id) (number from.0.id) (order_is k.id from.0.id (typed k (inl refl)) (typed from.0 (inr from.1)) ∙ before) in
+      let same = from.2 in
+      omega (arith, less, same),
+  numbers_ascend kept (λ x h. typed x (inr h)) ascending.1,
+)
 
 map_take : {A B : Type 0} (f : A → B) (n : ℕ) (xs : List A) → map f (take n xs) ≡ take n (map f xs)
 map_take f zero xs = refl
@@ -131,12 +136,11 @@ module _ (s : Setting) (m : ℕ) (n : node.Node) (v : machine.View) (shows : Sho
       let there = shows.typed t passed.1 in
       subst (λ u. In u (map number_of n.state.kept)) there.2 (map-In number_of there.0 n.state.kept there.1)
 
-  numbers_are : map number_of (node.ascending n.state.kept) ≡ sorted chosen
+  numbers_are : map number_of n.state.kept ≡ sorted chosen
   numbers_are =
-      ascending_is n.state.kept (λ k h. (shows.records k h).typed) shows.distinct
-      ∙ same_ascending (sorted (map number_of n.state.kept)) (sorted chosen) (sorted_ascends (map number_of n.state.kept)) (sorted_ascends chosen)
-      (λ t h. sorted-In t chosen (forth t (In-sorted t (map number_of n.state.kept) h)))
-      (λ t h. sorted-In t (map number_of n.state.kept) (back t (In-sorted t chosen h)))
+      same_ascending (map number_of n.state.kept) (sorted chosen) (numbers_ascend n.state.kept (λ k h. (shows.records k h).typed) shows.ascending) (sorted_ascends chosen)
+      (λ t h. sorted-In t chosen (forth t h))
+      (λ t h. back t (In-sorted t chosen h))
 
   named_are : (kept : List Kept) → ((k : Kept) → In k kept → In k n.state.kept)
       → map shown_kept (map node.named kept) ≡ map (λ (t : ℕ). (t, participants_at s m t)) (map number_of kept)
@@ -145,11 +149,11 @@ module _ (s : Setting) (m : ℕ) (n : node.Node) (v : machine.View) (shows : Sho
       ap (λ (ps : List ℕ). let x : ℕ × List ℕ = (number k.id, ps) in x ∷ map shown_kept (map node.named kept)) (shows.records k (all k (inl refl))).participants
       ∙ ap (λ (xs : List (ℕ × List ℕ)). let x : ℕ × List ℕ = (number k.id, participants_at s m (number k.id)) in x ∷ xs) (named_are kept (λ y h. all y (inr h)))
 
-  pub list_is : map shown_kept (map node.named (take 64 (node.ascending n.state.kept))) ≡ machine.kept_in s m v.records
+  pub list_is : map shown_kept (map node.named (take 64 n.state.kept)) ≡ machine.kept_in s m v.records
   unfolding chosen
   list_is =
-      named_are (take 64 (node.ascending n.state.kept)) (λ k h. In-ascending k n.state.kept (In-taken 64 k (node.ascending n.state.kept) h))
-      ∙ ap (map (λ (t : ℕ). (t, participants_at s m t))) (map_take number_of 64 (node.ascending n.state.kept) ∙ ap (take 64) numbers_are)
+      named_are (take 64 n.state.kept) (λ k h. In-taken 64 k n.state.kept h)
+      ∙ ap (map (λ (t : ℕ). (t, participants_at s m t))) (map_take number_of 64 n.state.kept ∙ ap (take 64) numbers_are)
 
 pub lists_are_the_machines : ListsAreTheMachines
-lists_are_the_machines s m n v shows = (map node.named (take 64 (node.ascending n.state.kept)), refl, list_is s m n v shows)
+lists_are_the_machines s m n v shows = (map node.named (take 64 n.state.kept), refl, list_is s m n v shows)

@@ -1,25 +1,26 @@
 -- A state that a load finds shows in a machine that is opened from states.
-use Rattle.std.proofs.Common.{◌≡◌, ℕ, zero, suc, ◌≤◌, Bool, true, false, not, cond, ◌&&◌, ◌||◌, List, [], ◌∷◌, ◌++◌, Option, Some, None, is_some, ◌⊎◌, inl, inr, refl, sym, ap, subst, ◌∙◌, arith}
+use Rattle.std.proofs.Common.{◌≡◌, ℕ, zero, suc, ◌≤◌, Bool, true, false, not, cond, ◌&&◌, ◌||◌, List, [], ◌∷◌, ◌++◌, map, Option, Some, None, is_some, ◌⊎◌, inl, inr, refl, sym, ap, subst, ◌∙◌, arith}
 use Rattle.std.proofs.lemmas.Bool.{and_parts, and_from, or_cases, not-true, not_from_false, false_from_ne_true, eq-eqb}
 use Rattle.mini_tx.specs.declared.tx_id.TxId.{TxId}
 use Rattle.mini_tx.specs.Laws.{IsTypedId}
-use Rattle.mem_node.specs.declared.floor.Floor.{Floor}
-use Rattle.mem_node.specs.declared.kept.Kept.{Kept}
-use Rattle.mem_node.specs.Identifiers.{is_same}
-use Rattle.mem_node.specs.Rules.{is_undecided}
-use Rattle.mem_node.specs.State.{State, floor_at, kept_of}
+use Rattle.mem_rules.specs.declared.floor.Floor.{Floor}
+use Rattle.mem_rules.specs.declared.kept.Kept.{Kept}
+use Rattle.mem_rules.specs.Identifiers.{is_same}
+use Rattle.mem_rules.specs.Rules.{is_undecided}
+use Rattle.mem_rules.specs.State.{State, floor_at, kept_of}
 use Rattle.tx_rules.specs.Mini.{In, Setting, has_several, participants_at}
 use Rattle.tx_rules.specs.Decision.{Reason, Record, Grant, Refuse, Commit, Abort, Forget}
 use Rattle.tx_rules.proofs.FaithfulLemmas.{in_front, in_back, in_either}
 use Rattle.tx_actors.specs.Node as machine
 use Rattle.tx_actors.proofs.LawLemmas.{floors_are_greatest}
 use Rattle.tx_actors.proofs.RecordLemmas.{has_grant-In, In-has_grant, has_forget-In, In-has_forget, DecidedIn, has_decision-In, In-has_decision}
-use Rattle.tx_actors.proofs.TestLemmas.{not_two}
+use Rattle.tx_actors.proofs.TestLemmas.{not_two, map-In}
 use Rattle.mem_laws.specs.Cells.{number}
 use Rattle.mem_laws.specs.Loaded.{records_of_decision, records_of_kept, records_of_vote, records_of_floor, records_of_floors, records_of_all, records_of_state, IsLoaded, LoadedNodesShow}
-use Rattle.mem_laws.specs.Shown.{reason_of, shown_floor, decision_on, AreDistinct}
+use Rattle.mem_laws.specs.Shown.{reason_of, shown_floor, decision_on}
 use Rattle.mem_laws.proofs.CellLemmas.{same_tests, number_same, sameness_is}
 use Rattle.mem_laws.proofs.ImageLemmas.{bytes_of_cells}
+use Rattle.mem_laws.proofs.ListLemmas.{Ascends, numbers_ascend}
 use Rattle.mem_laws.proofs.RuleLemmas.{find-In}
 
 -- ---- where a record comes from
@@ -156,16 +157,16 @@ found_same (x ∷ kept) k id h is = go (is_same x.id id) refl (λ there. found_s
     go true e later = refl
     go false e later = later (rest e)
 
-one_record_of : (kept : List Kept) → AreDistinct kept → (a b : Kept) → In a kept → In b kept → number a.id ≡ number b.id → a ≡ b
-one_record_of [] distinct a b x y e = absurd x
-one_record_of (k ∷ kept) distinct a b x y e = elim x [
+one_record_of : (kept : List Kept) → Ascends (map (λ (k : Kept). number k.id) kept) → (a b : Kept) → In a kept → In b kept → number a.id ≡ number b.id → a ≡ b
+one_record_of [] up a b x y e = absurd x
+one_record_of (k ∷ kept) up a b x y e = elim x [
   | inl here ↦ elim y [
     | inl too ↦ here ∙ sym too
-    | inr later ↦ absurd (distinct.0 b later (sym e ∙ ap (λ (z : Kept). number z.id) here))
+    | inr later ↦ absurd (let less = up.0 (number b.id) (map-In (λ (z : Kept). number z.id) b kept later) in omega (arith, less, e, ap (λ (z : Kept). number z.id) here))
   ]
   | inr later ↦ elim y [
-    | inl here ↦ absurd (distinct.0 a later (e ∙ ap (λ (z : Kept). number z.id) here))
-    | inr too ↦ one_record_of kept distinct.1 a b later too e
+    | inl here ↦ absurd (let less = up.0 (number a.id) (map-In (λ (z : Kept). number z.id) a kept later) in omega (arith, less, e, ap (λ (z : Kept). number z.id) here))
+    | inr too ↦ one_record_of kept up.1 a b later too e
   ]
 ]
 
@@ -350,7 +351,7 @@ module _ (s : Setting) (m : ℕ) (state : State) (loaded : IsLoaded s m state) w
       go true is = not_from_false (machine.has_decision rs (number k.id)) (false_from_ne_true (machine.has_decision rs (number k.id)) (λ decided.
           elim (decided_in (number k.id) (has_decision-In rs (number k.id) decided)) [
             | inl (other, there, e, over) ↦
-                not_two (is_undecided k) is (ap (λ (x : Kept). is_undecided x) (one_record_of state.kept loaded.distinct k other h there (sym e)) ∙ over)
+                not_two (is_undecided k) is (ap (λ (x : Kept). is_undecided x) (one_record_of state.kept (numbers_ascend state.kept (λ x h. (loaded.records x h).typed) loaded.ascending) k other h there (sym e)) ∙ over)
             | inr (c, f, at, unkept, e, none) ↦ unkept_apart c f k at unkept h e
           ]))
       go false is = ap not (In-has_decision rs (number k.id) (elim (decision_of_kept k is) [
@@ -401,7 +402,7 @@ loaded_nodes_show s m state seen loaded = record {
   floors = floors_are s m state loaded;
   votes = λ c floor at. ((loaded.floors c floor at).typed, λ granted fresh. absurd ((loaded.floors c floor at).known fresh));
   kept = kept_tests s m state loaded;
-  distinct = loaded.distinct;
+  ascending = loaded.ascending;
   records = λ k h.
       let l = loaded.records k h in
       record {

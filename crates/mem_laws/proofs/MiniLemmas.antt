@@ -12,8 +12,8 @@ use Rattle.mini_tx.specs.declared.range.Range.{Range}
 use Rattle.mini_tx.specs.declared.write_at.WriteAt.{WriteAt}
 use Rattle.mini_tx.specs.FlatMemory.{Flat, held_by, bytes_at, with_bytes, ItemMatches, reads, after, IsWithin}
 use Rattle.mini_tx.specs.Minitransactions.{memory_of, place_of, bytes_of, is_write, refusal}
-use Rattle.mem_node.specs.Items.{range_of, write_before, writes_of, any_write}
-use Rattle.mem_node.specs.Rules as node
+use Rattle.mem_rules.specs.Items.{range_of, write_before, writes_of, any_write}
+use Rattle.mem_rules.specs.Rules as node
 use Rattle.tx_rules.specs.Mini as table
 use Rattle.tx_rules.specs.Mini.{In, Want, Mini, IsMini, Memory, Setting, has_several, flat}
 use Rattle.tx_rules.proofs.FaithfulLemmas.{in_front, in_back, in_either}

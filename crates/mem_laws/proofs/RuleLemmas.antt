@@ -8,16 +8,16 @@ use Rattle.mini_tx.specs.declared.placed_item.PlacedItem.{PlacedItem}
 use Rattle.mini_tx.specs.declared.range.Range.{Range}
 use Rattle.mini_tx.specs.declared.tx_id.TxId.{TxId}
 use Rattle.mini_tx.specs.Minitransactions.{place_of, bytes_of}
-use Rattle.mem_node.specs.declared.difference.Difference.{Difference}
-use Rattle.mem_node.specs.declared.floor.Floor.{Floor}
-use Rattle.mem_node.specs.declared.kept.Kept.{Kept}
-use Rattle.mem_node.specs.declared.rule.Rule.{Rule}
-use Rattle.mem_node.specs.declared.standing.Standing.TheVariants.{Above, At, Below}
-use Rattle.mem_node.specs.Fit.{IsInside}
-use Rattle.mem_node.specs.Identifiers.{precedes, is_same}
-use Rattle.mem_node.specs.Items.{first_difference, range_of}
-use Rattle.mem_node.specs.Rules as node
-use Rattle.mem_node.specs.State.{floor_at, kept_of}
+use Rattle.mem_rules.specs.declared.difference.Difference.{Difference}
+use Rattle.mem_rules.specs.declared.floor.Floor.{Floor}
+use Rattle.mem_rules.specs.declared.kept.Kept.{Kept}
+use Rattle.mem_rules.specs.declared.rule.Rule.{Rule}
+use Rattle.mem_rules.specs.declared.standing.Standing.TheVariants.{Above, At, Below}
+use Rattle.mem_rules.specs.Fit.{IsInside}
+use Rattle.mem_rules.specs.Identifiers.{precedes, is_same}
+use Rattle.mem_rules.specs.Items.{first_difference, range_of}
+use Rattle.mem_rules.specs.Rules as node
+use Rattle.mem_rules.specs.State.{floor_at, kept_of}
 use Rattle.tx_rules.specs.Mini.{In, Setting, cells_of}
 use Rattle.tx_actors.specs.Node as machine
 use Rattle.tx_rules.specs.Lists as tests

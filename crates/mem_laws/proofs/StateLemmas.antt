@@ -1,5 +1,5 @@
 -- After a vote a memory node shows in the machine again.
-use Rattle.std.proofs.Common.{◌≡◌, ℕ, nat_lt, ◌==◌, Bool, true, false, not, cond, ◌&&◌, ◌||◌, List, [], ◌∷◌, ◌≤◌, ◌++◌, map, replicate, length, Option, Some, None, is_some, unwrap_or, inl, inr, refl, sym, ap, subst, ◌∙◌, arith}
+use Rattle.std.proofs.Common.{◌≡◌, ℕ, nat_lt, ◌==◌, Bool, true, false, not, cond, ◌&&◌, ◌||◌, List, [], ◌∷◌, ◌≤◌, map, replicate, length, Option, Some, None, is_some, unwrap_or, inl, inr, refl, sym, ap, subst, ◌∙◌, arith}
 use Rattle.std.proofs.lemmas.Bool.{cases_lt, eq-eqb, ne_eqb, eqb-true, ltb-true, and_from, or_parts, not_from_false, false_from_ne_true}
 use Rattle.std.proofs.lemmas.List.{get_or-replicate, get_or_past, length-replicate}
 use Rattle.mini_tx.specs.declared.entry.Entry.{Entry}
@@ -10,16 +10,17 @@ use Rattle.mini_tx.specs.declared.tx_id.TxId.{TxId}
 use Rattle.mini_tx.specs.declared.vote.Vote.{Vote}
 use Rattle.mini_tx.specs.declared.vote.Vote.TheVariants as vote
 use Rattle.mini_tx.specs.EntryGrammar.{is_granted}
-use Rattle.mem_node.specs.declared.floor.Floor.{Floor}
-use Rattle.mem_node.specs.declared.kept.Kept.{Kept}
-use Rattle.mem_node.specs.declared.rule.Rule.{Rule}
-use Rattle.mem_node.specs.declared.rule.Rule.TheVariants.{RecordAgain, FloorAgain, ForcedBy, HeldBy, LockedBy, MismatchAt, Passes}
-use Rattle.mem_node.specs.declared.standing.Standing.{Standing}
-use Rattle.mem_node.specs.declared.standing.Standing.TheVariants.{Above, At, Below}
-use Rattle.mem_node.specs.Identifiers.{precedes, is_same}
-use Rattle.mem_node.specs.Items.{written, reads_of, writes_of, range_of}
-use Rattle.mem_node.specs.Rules as node
-use Rattle.mem_node.specs.State.{floor_at, kept_of, after_one}
+use Rattle.mem_rules.specs.declared.floor.Floor.{Floor}
+use Rattle.mem_rules.specs.declared.kept.Kept.{Kept}
+use Rattle.mem_rules.specs.declared.rule.Rule.{Rule}
+use Rattle.mem_rules.specs.declared.rule.Rule.TheVariants.{RecordAgain, FloorAgain, ForcedBy, HeldBy, LockedBy, MismatchAt, Passes}
+use Rattle.mem_rules.specs.declared.standing.Standing.{Standing}
+use Rattle.mem_rules.specs.declared.standing.Standing.TheVariants.{Above, At, Below}
+use Rattle.mem_rules.specs.Identifiers.{precedes, is_same}
+use Rattle.mem_rules.specs.Items.{written, reads_of, writes_of, range_of}
+use Rattle.mem_rules.specs.Rules as node
+use Rattle.mem_rules.specs.State.{floor_at, kept_of, placed_in, after_one}
+use Rattle.mem_rules.proofs.GoodLemmas.{ascending_placed}
 use Rattle.tx_rules.specs.Mini as mini
 use Rattle.tx_rules.specs.Mini.{In, Setting, has_several, is_logged, nodes_of, participants_at}
 use Rattle.tx_rules.specs.Decision.{Grant, Commit}
@@ -31,14 +32,14 @@ use Rattle.tx_actors.proofs.AlikeLemmas.{alike_after_all, alike_self}
 use Rattle.tx_actors.proofs.LawLemmas.{floors_are_greatest}
 use Rattle.tx_actors.proofs.RecordLemmas.{has_grant-In, live_named}
 use Rattle.tx_actors.proofs.TestLemmas.{not_two}
-use Rattle.tx_rules.proofs.FaithfulLemmas.{in_front, in_back, in_either}
 use Rattle.mem_laws.specs.Cells.{number, cells_from, written_in}
-use Rattle.mem_laws.specs.Shown.{reason_of, shown_floor, AreDistinct, cut_held, IsShownRecord, Shows, records_of}
+use Rattle.mem_laws.specs.Shown.{reason_of, shown_floor, cut_held, IsShownRecord, Shows, records_of}
 use Rattle.mem_laws.specs.Laws.{IsNamed, IsAsked, OpenedNodesShow, StatesAreTheMachines}
 use Rattle.mem_laws.proofs.CellLemmas.{order_is, sameness_is}
 use Rattle.mem_laws.proofs.FloorLemmas.{found_in, floor_moves, votes_after, other_number, refused_state}
 use Rattle.mem_laws.proofs.ImageLemmas.{AreWritesWithin, same_size, length_written, bytes_of_cells, image_after, map_alike, writes_within}
 use Rattle.mem_laws.proofs.AlikeLemmas.{vote_alike, shows_alike}
+use Rattle.mem_laws.proofs.ListLemmas.{In-placed, placed-In}
 use Rattle.mem_laws.proofs.RuleLemmas.{within}
 use Rattle.mem_laws.proofs.VoteLemmas.{several_is, vote_is}
 use Rattle.mem_laws.proofs.WantLemmas.{reads_are}
@@ -60,7 +61,7 @@ opened_shows s m nodes image seen =
       floors = λ c. ap shown_floor (sym (no_floor nodes c));
       votes = λ c floor is. let e : None ≡ Some floor = sym (no_floor nodes c) ∙ is in absurd cc;
       kept = λ id typed. refl;
-      distinct = tt;
+      ascending = tt;
       records = λ k h. absurd h;
       within = λ k h. absurd h;
       undecided = λ t is. absurd cc;
@@ -69,20 +70,15 @@ opened_shows s m nodes image seen =
       image = bytes_of_cells image;
     }
 
--- ---- distinct records
-
-pub distinct_more : (kept : List Kept) (x : Kept) → AreDistinct kept → ((k : Kept) → In k kept → ¬ (number k.id ≡ number x.id)) → AreDistinct (kept ++ x ∷ [])
-distinct_more [] x distinct apart = (λ other h. absurd h, tt)
-distinct_more (k ∷ kept) x distinct apart = (
-  λ other h. elim (in_either other kept (x ∷ []) h) [
-    | inl before ↦ distinct.0 other before
-    | inr (inl e) ↦ λ same. apart k (inl refl) (sym same ∙ ap (λ (y : Kept). number y.id) e)
-    | inr (inr none) ↦ absurd none
-  ],
-  distinct_more kept x distinct.1 (λ y h. apart y (inr h)),
-)
-
 -- ---- tests
+
+or_true : (b : Bool) → (b || true) ≡ true
+or_true true = refl
+or_true false = refl
+
+or_false : (b : Bool) → (b || false) ≡ b
+or_false true = refl
+or_false false = refl
 
 -- of one participant no record is kept
 same_kept : (b g h f : Bool) → (b ≡ true → h ≡ false) → ((b || g) && (h && f)) ≡ (g && (h && f))
@@ -163,7 +159,7 @@ module _ (s : Setting) (m : ℕ) (n : node.Node) (v : machine.View) (id : TxId) 
             same_kept (t == number other) (machine.has_grant v.records (number other)) (has_several (participants_at s m (number other))) (not (machine.has_forget v.records (number other)))
             (λ is. ap (λ u. has_several (participants_at s m u)) (sym (eqb-true t (number other) is)) ∙ ap has_several named_by ∙ alone)
             ∙ asked.shows.kept other typed;
-        distinct = asked.shows.distinct;
+        ascending = asked.shows.ascending;
         typed = λ u is.
             asked.shows.typed u (sym (same_kept (t == u) (machine.has_grant v.records u) (has_several (participants_at s m u)) (not (machine.has_forget v.records u))
             (λ e. ap (λ x. has_several (participants_at s m x)) (sym (eqb-true t u e)) ∙ ap has_several named_by ∙ alone)) ∙ is);
@@ -215,18 +211,29 @@ module _ (s : Setting) (m : ℕ) (n : node.Node) (v : machine.View) (id : TxId) 
   record_now = record { id = id; participants = participants; vote = vote_now; ranges = map range_of items; writes = writes_of items; decision = None }
 
   -- a record is found among one more
-  kept_more : (kept : List Kept) (other : TxId) → is_some (kept_of (kept ++ record_now ∷ []) other) ≡ (is_some (kept_of kept other) || is_same id other)
+  kept_more : (kept : List Kept) (other : TxId) → is_some (kept_of (placed_in record_now kept) other) ≡ (is_some (kept_of kept other) || is_same id other)
   kept_more [] other = go (is_same id other)
     where
       go : (b : Bool) → is_some (cond b (Some record_now) None) ≡ b
       go true = refl
       go false = refl
-  kept_more (k ∷ kept) other = go (is_same k.id other) (kept_more kept other)
+  kept_more (k ∷ kept) other = by_order (precedes k.id id) (kept_more kept other)
     where
-      go : (b : Bool) → is_some (kept_of (kept ++ record_now ∷ []) other) ≡ (is_some (kept_of kept other) || is_same id other)
-          → is_some (cond b (Some k) (kept_of (kept ++ record_now ∷ []) other)) ≡ (is_some (cond b (Some k) (kept_of kept other)) || is_same id other)
-      go true rest = refl
-      go false rest = rest
+      before : (c d : Bool) → is_some (kept_of (placed_in record_now kept) other) ≡ (is_some (kept_of kept other) || d)
+          → is_some (cond c (Some k) (kept_of (placed_in record_now kept) other)) ≡ (is_some (cond c (Some k) (kept_of kept other)) || d)
+      before true d rest = refl
+      before false d rest = rest
+
+      behind : (c d : Bool) → is_some (cond d (Some record_now) (cond c (Some k) (kept_of kept other))) ≡ (is_some (cond c (Some k) (kept_of kept other)) || d)
+      behind true true = refl
+      behind false true = sym (or_true (is_some (kept_of kept other)))
+      behind true false = refl
+      behind false false = sym (or_false (is_some (kept_of kept other)))
+
+      by_order : (b : Bool) → is_some (kept_of (placed_in record_now kept) other) ≡ (is_some (kept_of kept other) || is_same id other)
+          → is_some (kept_of (cond b (k ∷ placed_in record_now kept) (record_now ∷ k ∷ kept)) other) ≡ (is_some (kept_of (k ∷ kept) other) || is_same id other)
+      by_order true rest = before (is_same k.id other) (is_same id other) rest
+      by_order false rest = behind (is_same k.id other) (is_same id other)
 
   abbrev view_kept : machine.View
   view_kept = after_record s m v (Grant t)
@@ -250,15 +257,16 @@ module _ (s : Setting) (m : ℕ) (n : node.Node) (v : machine.View) (id : TxId) 
             ∙ ap (λ b. b || (t == number other)) (asked.shows.kept other typed)
             ∙ ap (λ b. is_some (kept_of n.state.kept other) || b) (sameness_is id other asked.typed typed)
             ∙ sym (kept_more n.state.kept other);
-        distinct = distinct_more n.state.kept record_now asked.shows.distinct (λ k h. not_kept unkept k h);
+        ascending = ascending_placed record_now n.state.kept asked.shows.ascending unkept;
         typed = λ u is. keeps u (t == u) refl is;
-        records = λ k h. elim (in_either k n.state.kept (record_now ∷ []) h) [
-          | inl before ↦ older k before
-          | inr last ↦ newest k last
+        records = λ k h. elim (In-placed k record_now n.state.kept h) [
+          | inl own ↦ subst (λ (x : Kept). IsShownRecord s m view_kept x) (sym own) new_record
+          | inr before ↦ older k before
         ];
-        within = λ k h. elim (in_either k n.state.kept (record_now ∷ []) h) [
-          | inl before ↦ asked.shows.within k before
-          | inr last ↦ newest_within k last
+        within = λ k h. elim (In-placed k record_now n.state.kept h) [
+          | inl own ↦
+              subst (λ (x : Kept). AreWritesWithin (length n.state.image) x.writes) (sym own) (writes_within (length n.state.image) items (within s m n v id participants items asked))
+          | inr before ↦ asked.shows.within k before
         ];
         undecided = λ u is. go u (t == u) refl is;
         granted = λ u is.
@@ -296,25 +304,16 @@ module _ (s : Setting) (m : ℕ) (n : node.Node) (v : machine.View) (id : TxId) 
             written = λ is. asked.told.written;
           }
 
-      newest : (k : Kept) → In k (record_now ∷ []) → IsShownRecord s m view_kept k
-      newest k (inl e) = subst (λ (x : Kept). IsShownRecord s m view_kept x) (sym e) new_record
-      newest k (inr none) = absurd none
-
-      newest_within : (k : Kept) → In k (record_now ∷ []) → AreWritesWithin (length n.state.image) k.writes
-      newest_within k (inl e) =
-          subst (λ (x : Kept). AreWritesWithin (length n.state.image) x.writes) (sym e) (writes_within (length n.state.image) items (within s m n v id participants items asked))
-      newest_within k (inr none) = absurd none
-
       keeps : (u : ℕ) (b : Bool) → (t == u) ≡ b
           → ((b || machine.has_grant v.records u) && (has_several (participants_at s m u) && not (machine.has_forget v.records u))) ≡ true
-          → (k : Kept) × In k (n.state.kept ++ record_now ∷ []) × (number k.id ≡ u)
-      keeps u true e is = (record_now, in_back record_now n.state.kept (record_now ∷ []) (inl refl), eqb-true t u e)
-      keeps u false e is = let found = asked.shows.typed u is in (found.0, in_front found.0 n.state.kept (record_now ∷ []) found.1, found.2)
+          → (k : Kept) × In k (placed_in record_now n.state.kept) × (number k.id ≡ u)
+      keeps u true e is = (record_now, placed-In record_now record_now n.state.kept (inl refl), eqb-true t u e)
+      keeps u false e is = let found = asked.shows.typed u is in (found.0, placed-In found.0 record_now n.state.kept (inr found.1), found.2)
 
       go : (u : ℕ) (b : Bool) → (t == u) ≡ b → ((b || machine.has_grant v.records u) && not (machine.has_decision v.records u)) ≡ true
-          → (k : Kept) × In k (n.state.kept ++ record_now ∷ []) × (number k.id ≡ u)
-      go u true e is = (record_now, in_back record_now n.state.kept (record_now ∷ []) (inl refl), eqb-true t u e)
-      go u false e is = let found = asked.shows.undecided u is in (found.0, in_front found.0 n.state.kept (record_now ∷ []) found.1, found.2)
+          → (k : Kept) × In k (placed_in record_now n.state.kept) × (number k.id ≡ u)
+      go u true e is = (record_now, placed-In record_now record_now n.state.kept (inl refl), eqb-true t u e)
+      go u false e is = let found = asked.shows.undecided u is in (found.0, placed-In found.0 record_now n.state.kept (inr found.1), found.2)
 
   -- ---- each rule
 

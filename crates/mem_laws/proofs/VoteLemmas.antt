@@ -10,17 +10,17 @@ use Rattle.mini_tx.specs.declared.tx_id.TxId.{TxId}
 use Rattle.mini_tx.specs.declared.vote.Vote.{Vote}
 use Rattle.mini_tx.specs.declared.vote.Vote.TheVariants as vote
 use Rattle.mini_tx.specs.EntryGrammar.{is_granted}
-use Rattle.mem_node.specs.declared.difference.Difference.{Difference}
-use Rattle.mem_node.specs.declared.floor.Floor.{Floor}
-use Rattle.mem_node.specs.declared.kept.Kept.{Kept}
-use Rattle.mem_node.specs.declared.rule.Rule.{Rule}
-use Rattle.mem_node.specs.declared.rule.Rule.TheVariants.{RecordAgain, FloorAgain, ForcedBy, HeldBy, LockedBy, MismatchAt, Passes}
-use Rattle.mem_node.specs.declared.standing.Standing.TheVariants.{Above, At, Below}
-use Rattle.mem_node.specs.Identifiers.{precedes, is_same}
-use Rattle.mem_node.specs.Items.{first_difference, range_of}
-use Rattle.mem_node.specs.Items as node_items
-use Rattle.mem_node.specs.Rules as node
-use Rattle.mem_node.specs.State.{floor_at, kept_of}
+use Rattle.mem_rules.specs.declared.difference.Difference.{Difference}
+use Rattle.mem_rules.specs.declared.floor.Floor.{Floor}
+use Rattle.mem_rules.specs.declared.kept.Kept.{Kept}
+use Rattle.mem_rules.specs.declared.rule.Rule.{Rule}
+use Rattle.mem_rules.specs.declared.rule.Rule.TheVariants.{RecordAgain, FloorAgain, ForcedBy, HeldBy, LockedBy, MismatchAt, Passes}
+use Rattle.mem_rules.specs.declared.standing.Standing.TheVariants.{Above, At, Below}
+use Rattle.mem_rules.specs.Identifiers.{precedes, is_same}
+use Rattle.mem_rules.specs.Items.{first_difference, range_of}
+use Rattle.mem_rules.specs.Items as node_items
+use Rattle.mem_rules.specs.Rules as node
+use Rattle.mem_rules.specs.State.{floor_at, kept_of}
 use Rattle.tx_rules.specs.Mini.{Setting, IsFresh, is_logged, has_several, nodes_of, reads_of}
 use Rattle.tx_rules.specs.Decision.{Reason, Held, Locked, Mismatch, Grant, Refuse, Commit}
 use Rattle.tx_rules.specs.World.{Message, Granted, Looked, Refused}

@@ -7,10 +7,10 @@ use Rattle.mini_tx.specs.declared.item.Item.TheVariants.{Compare, Read, Write}
 use Rattle.mini_tx.specs.declared.placed_item.PlacedItem.{PlacedItem}
 use Rattle.mini_tx.specs.FlatMemory.{bytes_at}
 use Rattle.mini_tx.specs.Minitransactions.{place_of, bytes_of}
-use Rattle.mem_node.specs.declared.difference.Difference.{Difference}
-use Rattle.mem_node.specs.Fit.{IsInside}
-use Rattle.mem_node.specs.Items.{are_same, differs, first_difference, reads_of}
-use Rattle.mem_node.specs.Items as node
+use Rattle.mem_rules.specs.declared.difference.Difference.{Difference}
+use Rattle.mem_rules.specs.Fit.{IsInside}
+use Rattle.mem_rules.specs.Items.{are_same, differs, first_difference, reads_of}
+use Rattle.mem_rules.specs.Items as node
 use Rattle.tx_rules.specs.Mini.{Want}
 use Rattle.tx_actors.specs.Node.{first_mismatch}
 use Rattle.mem_laws.specs.Cells.{cells_from, wants_from, wants_before, wants_of, read_cells, read_before}

@@ -8,7 +8,7 @@ use Rattle.mini_tx.specs.declared.message.Message as sent_type
 use Rattle.mini_tx.specs.declared.message.Message.TheVariants as sent
 use Rattle.mini_tx.specs.FlatMemory.{bytes_at}
 use Rattle.mini_tx.specs.Laws.{IsTypedCut}
-use Rattle.mem_node.specs.Rules as node
+use Rattle.mem_rules.specs.Rules as node
 use Rattle.tx_rules.specs.Mini.{Setting}
 use Rattle.tx_actors.specs.Node as machine
 use Rattle.tx_cuts.specs.Cut.{CutMessage, HeldOk, HeldLocked, HeldPast, Piece, PieceNone, StillHeld, Copy, Cuts, CutEvent, Sends, after_cuts}

@@ -4,9 +4,9 @@ use Rattle.mini_tx.specs.declared.message.Message.TheVariants as sent
 use Rattle.mini_tx.specs.declared.placed_item.PlacedItem.{PlacedItem}
 use Rattle.mini_tx.specs.declared.tx_id.TxId.{TxId}
 use Rattle.mini_tx.specs.Laws.{IsTypedId}
-use Rattle.mem_node.specs.Fit.{AreInside}
-use Rattle.mem_node.specs.Rules as node
-use Rattle.mem_node.specs.State.{State, opened, after_one, kept_of}
+use Rattle.mem_rules.specs.Fit.{AreInside}
+use Rattle.mem_rules.specs.Rules as node
+use Rattle.mem_rules.specs.State.{State, opened, after_one, kept_of}
 use Rattle.tx_rules.specs.Mini.{Setting, IsFresh}
 use Rattle.tx_rules.specs.World.{World, Event, Done, AnswerOk, AnswerAbort, after_all}
 use Rattle.tx_actors.specs.Machine.{appending}

@@ -4,3 +4,4 @@ pub mod Laws
 pub mod Cuts
 pub mod Loaded
 pub mod Minis
+pub mod Steps

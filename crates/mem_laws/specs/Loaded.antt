@@ -3,17 +3,18 @@ use Rattle.std.specs.Prelude.{◌≡◌, ◌≤◌, ℕ, Bool, true, false, List
 use Rattle.std.specs.List.{AllByRecursion, slice_get}
 use Rattle.mini_tx.specs.Laws.{IsTypedId}
 use Rattle.mini_tx.specs.EntryGrammar.{is_granted}
-use Rattle.mem_node.specs.declared.floor.Floor.{Floor}
-use Rattle.mem_node.specs.declared.kept.Kept.{Kept}
-use Rattle.mem_node.specs.Fit.{IsWriteInside}
-use Rattle.mem_node.specs.Rules.{is_undecided}
-use Rattle.mem_node.specs.State.{State, floor_at, kept_of}
+use Rattle.mem_rules.specs.declared.floor.Floor.{Floor}
+use Rattle.mem_rules.specs.declared.kept.Kept.{Kept}
+use Rattle.mem_rules.specs.Fit.{IsWriteInside}
+use Rattle.mem_rules.specs.Good.{AreAscending}
+use Rattle.mem_rules.specs.Rules.{is_undecided}
+use Rattle.mem_rules.specs.State.{State, floor_at, kept_of}
 use Rattle.tx_rules.specs.Mini.{In, Memory, Setting, has_several, participants_at, cells_of, IsFresh}
 use Rattle.tx_rules.specs.Decision.{Entry, At, Reason, Record, Grant, Refuse, Commit, Abort, Forget}
 use Rattle.tx_rules.specs.World.{opened}
 use Rattle.tx_actors.specs.Node.{view}
 use Rattle.mem_laws.specs.Cells.{number, cells_in, written_in}
-use Rattle.mem_laws.specs.Shown.{reason_of, AreDistinct, Shows}
+use Rattle.mem_laws.specs.Shown.{reason_of, Shows}
 
 -- ---- the records, newest first
 
@@ -72,7 +73,7 @@ pub record IsLoadedRecord (s : Setting) (m : ℕ) (state : State) (k : Kept) : T
 pub record IsLoaded (s : Setting) (m : ℕ) (state : State) : Type 0 where
   pub floors : (c : ℕ) (floor : Floor) → floor_at state.floors c ≡ Some floor → IsLoadedFloor s c floor
   pub records : (k : Kept) → In k state.kept → IsLoadedRecord s m state k
-  pub distinct : AreDistinct state.kept
+  pub ascending : AreAscending state.kept
   pub within : (k : Kept) → In k state.kept → AllByRecursion (IsWriteInside (length state.image)) k.writes
 
 -- such a state shows in a machine that has its records and holds the same bytes, whatever was seen before

@@ -6,7 +6,7 @@ use Rattle.mini_tx.specs.declared.placed_item.PlacedItem.{PlacedItem}
 use Rattle.mini_tx.specs.declared.tx_id.TxId.{TxId}
 use Rattle.mini_tx.specs.FlatMemory.{Flat, held_by, Matches, reads, after, IsWithin}
 use Rattle.mini_tx.specs.Minitransactions.{memory_of, is_write, refusal, TakePart}
-use Rattle.mem_node.specs.Items.{range_of, writes_of}
+use Rattle.mem_rules.specs.Items.{range_of, writes_of}
 use Rattle.tx_rules.specs.Mini as table
 use Rattle.tx_rules.specs.Mini.{In, Mini, IsMini, Memory, Setting, flat}
 use Rattle.tx_actors.specs.Node.{sorted}

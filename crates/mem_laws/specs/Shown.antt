@@ -1,5 +1,5 @@
 -- How what a memory node has, and what it does, shows in the machine of the transaction protocol.
-use Rattle.std.specs.Prelude.{◌≡◌, ◌≤◌, ◌+◌, ℕ, Bool, ◌||◌, true, false, List, [], ◌∷◌, length, map, Option, Some, None, is_some, option_map, if◌then◌else◌, ⊤}
+use Rattle.std.specs.Prelude.{◌≡◌, ◌≤◌, ◌+◌, ℕ, Bool, ◌||◌, true, false, List, [], ◌∷◌, length, map, Option, Some, None, is_some, option_map, if◌then◌else◌}
 use Rattle.std.specs.List.{AllByRecursion}
 use Rattle.mini_tx.specs.declared.entry.Entry.{Entry}
 use Rattle.mini_tx.specs.declared.entry.Entry.TheVariants as entry
@@ -12,14 +12,15 @@ use Rattle.mini_tx.specs.declared.vote.Vote.TheVariants as vote
 use Rattle.mini_tx.specs.EntryGrammar.{is_granted}
 use Rattle.mini_tx.specs.FlatMemory.{bytes_at}
 use Rattle.mini_tx.specs.Laws.{IsTypedId}
-use Rattle.mem_node.specs.declared.floor.Floor.{Floor}
-use Rattle.mem_node.specs.declared.kept.Kept.{Kept}
-use Rattle.mem_node.specs.declared.rule.Rule.{Rule}
-use Rattle.mem_node.specs.declared.rule.Rule.TheVariants.{RecordAgain, FloorAgain, ForcedBy, HeldBy, LockedBy, MismatchAt, Passes}
-use Rattle.mem_node.specs.Fit.{IsWriteInside}
-use Rattle.mem_node.specs.Items.{range_of, writes_of}
-use Rattle.mem_node.specs.Rules as node
-use Rattle.mem_node.specs.State.{State, floor_at, kept_of}
+use Rattle.mem_rules.specs.declared.floor.Floor.{Floor}
+use Rattle.mem_rules.specs.declared.kept.Kept.{Kept}
+use Rattle.mem_rules.specs.declared.rule.Rule.{Rule}
+use Rattle.mem_rules.specs.declared.rule.Rule.TheVariants.{RecordAgain, FloorAgain, ForcedBy, HeldBy, LockedBy, MismatchAt, Passes}
+use Rattle.mem_rules.specs.Fit.{IsWriteInside}
+use Rattle.mem_rules.specs.Good.{AreAscending}
+use Rattle.mem_rules.specs.Items.{range_of, writes_of}
+use Rattle.mem_rules.specs.Rules as node
+use Rattle.mem_rules.specs.State.{State, floor_at, kept_of}
 use Rattle.tx_rules.specs.Mini.{In, Setting, nodes_of, participants_at, cells_of, IsFresh, reads_of, is_logged}
 use Rattle.tx_rules.specs.Decision.{Reason, Forced, Held, Locked, Mismatch, Record, Grant, Commit, Abort, Forget}
 use Rattle.tx_rules.specs.World.{Message, Granted, Looked, Refused}
@@ -83,17 +84,12 @@ pub record IsShownRecord (s : Setting) (m : ℕ) (v : machine.View) (k : Kept) :
   pub locked : node.is_undecided k ≡ true → cells_of s (number k.id) m ≡ cells_in k.ranges
   pub written : node.is_undecided k ≡ true → (a : ℕ) → (s.mini (number k.id)).writes m a ≡ written_in k.writes a
 
--- no identifier has two of these records
-abbrev pub AreDistinct : List Kept → Type 0
-AreDistinct [] = ⊤
-AreDistinct (k ∷ kept) = ((other : Kept) → In other kept → ¬ (number other.id ≡ number k.id)) × AreDistinct kept
-
 -- the machine's memory node has what this one has
 pub record Shows (s : Setting) (m : ℕ) (state : State) (v : machine.View) : Type 0 where
   pub floors : (c : ℕ) → machine.floor_of s v.records c ≡ shown_floor (floor_at state.floors c)
   pub votes : (c : ℕ) (floor : Floor) → floor_at state.floors c ≡ Some floor → IsTypedId floor.id × IsShownVote s m v floor.id floor.vote
   pub kept : (id : TxId) → IsTypedId id → machine.is_kept s m v.records (number id) ≡ is_some (kept_of state.kept id)
-  pub distinct : AreDistinct state.kept
+  pub ascending : AreAscending state.kept
   pub records : (k : Kept) → In k state.kept → IsShownRecord s m v k
   pub within : (k : Kept) → In k state.kept → AllByRecursion (IsWriteInside (length state.image)) k.writes
   pub undecided : (t : ℕ) → machine.is_undecided v.records t ≡ true → (k : Kept) × In k state.kept × (number k.id ≡ t)

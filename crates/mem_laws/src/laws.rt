@@ -1,6 +1,7 @@
 //! Laws of a memory node's rules and of the machine's.
 ghost use Rattle.mem_laws.specs.Cuts.{ListsAreTheMachines, HeldCutsAreTheMachines, ListedCutsAreTheMachines, HoldsAreTheMachines, ReleasesAreTheMachines, DropsAreTheMachines, ReadsAreTheMachines};
 ghost use Rattle.mem_laws.specs.Loaded.{LoadedNodesShow, LoadedClustersShow};
+ghost use Rattle.mem_laws.specs.Steps.{ReactionsAreTheMachines};
 ghost use Rattle.mem_laws.specs.Minis.{ParticipantsAreTheTables, ValidMinisFit, MinisAreTold, MinisMatchAlike, MinisReadAlike, MinisWriteAlike, FlatMemoriesAreAlike};
 ghost use Rattle.mem_laws.specs.Laws.{RulesAreTheMachines, VotesAreTheMachines, StatesAreTheMachines, DecisionsAreTheMachines, ForgettingIsTheMachines, AnswersAreTheMachines, DecisionsLeaveTheSame, ForgettingLeavesTheSame, AnswersLeaveTheSame, OthersLeaveIt, OpenedNodesShow};
 
@@ -137,4 +138,9 @@ pub fn participants_are_the_tables()
 /// And each of them shows in the machine that is opened from the logs and images of all.
 pub fn loaded_clusters_show()
     ensures { LoadedClustersShow }
+{}
+
+/// With each message but those of cuts a memory node does what the machine's does, and shows in it again.
+pub fn reactions_are_the_machines()
+    ensures { ReactionsAreTheMachines }
 {}

@@ -12,11 +12,11 @@ use Rattle.gate_log.proofs.LogLemmas.{holds_alike, stands_alike}
 use Rattle.mini_tx.specs.declared.entry.Entry.{Entry}
 use Rattle.mini_tx.specs.EntryGrammar.{entry_spelling}
 use Rattle.mini_tx.specs.EntryReading.{entry_of}
-use Rattle.mem_node.specs.declared.setup.Setup.{Setup}
-use Rattle.mem_node.specs.State.{State, opened, after_entry, after}
-use Rattle.mem_node.specs.Fit.{IsFit, size_of}
+use Rattle.mem_rules.specs.declared.setup.Setup.{Setup}
+use Rattle.mem_rules.specs.State.{State, opened, after_entry, after}
+use Rattle.mem_rules.specs.Fit.{IsFit, size_of}
 use Rattle.mem_node.specs.Header.{header_words, header_bytes, IsFormatted}
-use Rattle.mem_node.specs.Disk.{AreFit, Makes, Has, StandsFor}
+use Rattle.mem_node.specs.Disk.{AreFit, Makes, Has}
 use Rattle.mem_node.specs.Node.{IsSoundOn, IsBeforeOrAfter}
 
 -- ---- entries
@@ -78,67 +78,51 @@ has_alike s content other image bytes more small same stands has =
 unchanged : (snapshot : Snapshot) (image : Content) → snapshot.pending ≡ [] → MayLeave snapshot image → (place : ℕ) → image place ≡ snapshot.content place
 unchanged snapshot image none left place = left.same place (ap (λ (p : List (ℕ × ℕ)). is_pending p place) none)
 
-module _ {D : Type 0} (tells : D → Type 0) (history : D → History) (health : D → Health) (s : Setup) (node : Log D) (state : State) (small : size_of s ≤ 69214208)
-    (sound : IsSoundOn tells history health s node state) where
-  -- a crash leaves what the disk stands for
-  pub sound_leaves : (image : Content) → MayLeave (history node.disk).now image → node.extent.base ≡ 2 ^ 32 → StandsFor s image state
+module _ {D : Type 0} (tells : D → Type 0) (history : D → History) (health : D → Health) (s : Setup) (node : Log D) (stored : List ℕ) (bytes : List (List ℕ)) (state : State)
+    (small : size_of s ≤ 69214208) (sound : IsSoundOn tells history health s node stored bytes state) where
+  -- a crash leaves what the disk has
+  pub sound_leaves : (image : Content) → MayLeave (history node.disk).now image → node.extent.base ≡ 2 ^ 32 → Has s image stored bytes
   sound_leaves image left based =
       let content = (history node.disk).now.content in
       let same = unchanged (history node.disk).now image sound.logged.ready.safe left in
-      record {
-        image = sound.image;
-        bytes = sound.bytes;
-        has = has_alike s content image sound.image sound.bytes sound.bytes small (λ place low. same place)
-            (stands_alike content image (2 ^ 32) sound.bytes (λ i below. same (2 ^ 32 + i)) sound.has.log) sound.has;
-        makes = sound.makes;
-      }
+      has_alike s content image stored bytes bytes small (λ place low. same place)
+      (stands_alike content image (2 ^ 32) bytes (λ i below. same (2 ^ 32 + i)) sound.has.log) sound.has
 
-  module _ (e : Entry) (read : entry_of (entry_spelling e) ≡ Ok e) (fit : IsFit s state e) where
-    -- what the disk stands for with the bytes of the entry behind the log, or without them
-    stands_one : (image : Content) → gate.IsAppending (2 ^ 32) sound.bytes (entry_spelling e) (history node.disk).now.content image → IsBeforeOrAfter s state (Some e) image
-    stands_one image appending = by_log appending.log
+  module _ (e : Entry) where
+    -- what the disk has with the bytes of the entry behind the log, or without them
+    has_one : (image : Content) → gate.IsAppending (2 ^ 32) bytes (entry_spelling e) (history node.disk).now.content image → IsBeforeOrAfter s stored bytes (Some e) image
+    has_one image appending = by_log appending.log
       where
         same : IsSameBefore (history node.disk).now.content image
         same place low = appending.rest place (inl low)
 
-        by_log : gate.IsBeforeOrAfter (2 ^ 32) sound.bytes (entry_spelling e) image → IsBeforeOrAfter s state (Some e) image
-        by_log (inl stands) = inl record {
-          image = sound.image;
-          bytes = sound.bytes;
-          has = has_alike s (history node.disk).now.content image sound.image sound.bytes sound.bytes small same stands sound.has;
-          makes = sound.makes;
-        }
-        by_log (inr stands) = inr record {
-          image = sound.image;
-          bytes = sound.bytes ++ entry_spelling e ∷ [];
-          has = has_alike s (history node.disk).now.content image sound.image sound.bytes (sound.bytes ++ entry_spelling e ∷ []) small same stands sound.has;
-          makes = makes_more s sound.image sound.bytes state (entry_spelling e) e sound.makes read fit;
-        }
+        by_log : gate.IsBeforeOrAfter (2 ^ 32) bytes (entry_spelling e) image → IsBeforeOrAfter s stored bytes (Some e) image
+        by_log (inl stands) = inl (has_alike s (history node.disk).now.content image stored bytes bytes small same stands sound.has)
+        by_log (inr stands) = inr (has_alike s (history node.disk).now.content image stored bytes (bytes ++ entry_spelling e ∷ []) small same stands sound.has)
 
     -- the moments of an append of bytes at the log's base
     abbrev pub Moments : History → ℕ → List ℕ → Type 0
-    Moments now base b = LeavesOnly (history node.disk) now (gate.IsAppending base sound.bytes b (history node.disk).now.content)
+    Moments now base b = LeavesOnly (history node.disk) now (gate.IsAppending base bytes b (history node.disk).now.content)
 
     at_base : (now : History) (base : ℕ) (b : List ℕ) → base ≡ 2 ^ 32 → b ≡ entry_spelling e → Moments now base b → Moments now (2 ^ 32) (entry_spelling e)
     at_base now base b based is leaves = subst (λ (x : List ℕ). Moments now (2 ^ 32) x) is (subst (λ (n : ℕ). Moments now n b) based leaves)
 
     pub append_leaves : (now : History) (base : ℕ) (b : List ℕ) → base ≡ 2 ^ 32 → b ≡ entry_spelling e → Moments now base b
-        → LeavesOnly (history node.disk) now (IsBeforeOrAfter s state (Some e))
+        → LeavesOnly (history node.disk) now (IsBeforeOrAfter s stored bytes (Some e))
     append_leaves now base b based is leaves =
-        weaker_moments (gate.IsAppending (2 ^ 32) sound.bytes (entry_spelling e) (history node.disk).now.content)
-        (IsBeforeOrAfter s state (Some e)) (history node.disk) now stands_one (at_base now base b based is leaves)
+        weaker_moments (gate.IsAppending (2 ^ 32) bytes (entry_spelling e) (history node.disk).now.content)
+        (IsBeforeOrAfter s stored bytes (Some e)) (history node.disk) now has_one (at_base now base b based is leaves)
 
     pub append_sound : (more : Log D) (base : ℕ) (b : List ℕ) → base ≡ 2 ^ 32 → b ≡ entry_spelling e → more.extent.base ≡ 2 ^ 32
-        → IsLog tells history health more (sound.bytes ++ entry_spelling e ∷ []) → Moments (history more.disk) base b → IsSoundOn tells history health s more (after_entry state e)
-    append_sound more base b based is still logged leaves =
+        → IsLog tells history health more (bytes ++ entry_spelling e ∷ []) → Moments (history more.disk) base b
+        → entry_of (entry_spelling e) ≡ Ok e → IsFit s state e → IsSoundOn tells history health s more stored (bytes ++ entry_spelling e ∷ []) (after_entry state e)
+    append_sound more base b based is still logged leaves read fit =
         let now = (history more.disk).now in
-        let left = holds_last (gate.IsAppending (2 ^ 32) sound.bytes (entry_spelling e) (history node.disk).now.content)
+        let left = holds_last (gate.IsAppending (2 ^ 32) bytes (entry_spelling e) (history node.disk).now.content)
         (history node.disk) (history more.disk) (at_base (history more.disk) base b based is leaves) in
         record {
-          image = sound.image;
-          bytes = sound.bytes ++ entry_spelling e ∷ [];
           logged = logged;
-          has = has_alike s (history node.disk).now.content now.content sound.image sound.bytes (sound.bytes ++ entry_spelling e ∷ []) small (λ place low. left.rest place (inl low))
-              (subst (λ (n : ℕ). log.StandsFor now.content n (sound.bytes ++ entry_spelling e ∷ [])) still logged.stands) sound.has;
-          makes = makes_more s sound.image sound.bytes state (entry_spelling e) e sound.makes read fit;
+          has = has_alike s (history node.disk).now.content now.content stored bytes (bytes ++ entry_spelling e ∷ []) small (λ place low. left.rest place (inl low))
+              (subst (λ (n : ℕ). log.StandsFor now.content n (bytes ++ entry_spelling e ∷ [])) still logged.stands) sound.has;
+          makes = makes_more s stored bytes state (entry_spelling e) e sound.makes read fit;
         }

@@ -2,8 +2,8 @@
 use Rattle.std.proofs.Common.{◌≡◌, ℕ, List, [], ◌∷◌, sym, subst}
 use Rattle.mini_tx.specs.declared.placed_item.PlacedItem.{PlacedItem}
 use Rattle.mini_tx.specs.declared.tx_id.TxId.{TxId}
-use Rattle.mem_node.specs.declared.setup.Setup.{Setup}
-use Rattle.mem_node.specs.Fit.{IsFitPrepare}
+use Rattle.mem_rules.specs.declared.setup.Setup.{Setup}
+use Rattle.mem_rules.specs.Fit.{IsFitPrepare}
 use Rattle.mem_node.specs.Fixture.{lone, AreFitItems}
 
 pub asked_is_fit : (setup : Setup) (id : TxId) (participants : List ℕ) (items : List PlacedItem) → setup ≡ lone → id.coord ≡ 0 → participants ≡ 0 ∷ [] → AreFitItems items

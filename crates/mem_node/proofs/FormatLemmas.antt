@@ -10,8 +10,8 @@ use Rattle.disk_model.proofs.MomentLemmas.{outside_one, weaker_moments, join_mom
 use Rattle.gate_log.proofs.LogLemmas.{holds_back}
 use Rattle.mini_tx.specs.FreshImages.{fresh_image}
 use Rattle.mini_tx.proofs.FreshLemmas.{length-fresh_image}
-use Rattle.mem_node.specs.declared.setup.Setup.{Setup}
-use Rattle.mem_node.specs.Fit.{IsSetup}
+use Rattle.mem_rules.specs.declared.setup.Setup.{Setup}
+use Rattle.mem_rules.specs.Fit.{IsSetup}
 use Rattle.mem_node.specs.Header.{header_bytes}
 use Rattle.mem_node.specs.Lay.{IsUnmarked, is_laid}
 use Rattle.mem_node.specs.Format.{IsFresh, IsMarkAlone, IsFormatting, IsLaidOut, IsLaying, IsDone, front_bytes}

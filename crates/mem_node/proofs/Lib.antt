@@ -1,7 +1,6 @@
-pub mod ItemLemmas
+pub mod LawLemmas
 pub mod DiskLemmas
 pub mod NodeLemmas
-pub mod RuleLemmas
 pub mod ReplayLemmas
 pub mod LoadLemmas
 pub mod LayLemmas

@@ -8,11 +8,11 @@ use Rattle.disk_model.specs.Health.{Health}
 use Rattle.mem_node.specs.declared.mem_node.MemNode.{MemNode}
 use Rattle.mem_node.specs.declared.node_fault.NodeFault.{NodeFault}
 use Rattle.mem_node.specs.declared.node_fault.NodeFault.TheVariants.{Down, Full, Other, Damaged, NoMemory}
-use Rattle.mem_node.specs.declared.setup.Setup.{Setup}
+use Rattle.mem_rules.specs.declared.setup.Setup.{Setup}
 use Rattle.mem_node.specs.Header.{header_bytes, IsFormatted}
 use Rattle.mem_node.specs.Disk.{IsReplayFault, IsLoadFault}
-use Rattle.mem_node.specs.Fit.{size_of}
-use Rattle.mem_node.specs.Node.{IsOn, IsSound}
+use Rattle.mem_rules.specs.Fit.{size_of}
+use Rattle.mem_node.specs.Node.{IsOn, IsOnDisk}
 use Rattle.mem_node.proofs.DiskLemmas.{length-header}
 use Rattle.disk_model.specs.LogBytes as log
 
@@ -63,24 +63,28 @@ load_refused (Err r) before was failure passed other P Q fell calm weaker is =
 -- what was found makes a sound memory node
 module _ {D : Type 0} {G : Ghosts D} (tells : D → Type 0) (history : D → History) (health : D → Health) (s : Setup) (content : Content) (image : List ℕ) where
   sound_of : (node : MemNode D G) → IsFormatted s content → length image ≡ size_of s → Holds content 4096 image → node.memory.setup ≡ s
-      → (history node.log.disk).now.content ≡ content → IsOn tells history health node image → IsSound tells history health node
-  sound_of node formatted sized stored own same on = record {
-    image = image;
-    bytes = on.bytes;
-    logged = on.logged;
-    has = record {
-      formatted = subst (λ (c : Content). IsFormatted node.memory.setup c) (sym same) (subst (λ (t : Setup). IsFormatted t content) (sym own) formatted);
-      sized = sized ∙ ap size_of (sym own);
-      stored = subst (λ (c : Content). Holds c 4096 image) (sym same) stored;
-      log = subst (λ (n : ℕ). log.StandsFor (history node.log.disk).now.content n on.bytes) node.based on.logged.stands;
-    };
-    makes = on.makes;
-  }
+      → (history node.log.disk).now.content ≡ content → IsOn tells history health node image → IsOnDisk tells history health node
+  sound_of node formatted sized stored own same on = (
+    image,
+    (
+      on.bytes,
+      record {
+        logged = on.logged;
+        has = record {
+          formatted = subst (λ (c : Content). IsFormatted node.memory.setup c) (sym same) (subst (λ (t : Setup). IsFormatted t content) (sym own) formatted);
+          sized = sized ∙ ap size_of (sym own);
+          stored = subst (λ (c : Content). Holds c 4096 image) (sym same) stored;
+          log = subst (λ (n : ℕ). log.StandsFor (history node.log.disk).now.content n on.bytes) node.based on.logged.stands;
+        };
+        makes = on.makes;
+      },
+    ),
+  )
 
   pub all_sound : {E : Type 0} (result : Result (MemNode D G) E) (Told Ready : Type 0) → (Ready → Told) → (Told → IsFormatted s content) → length image ≡ size_of s → (Told → Holds content 4096 image)
       → IfOk result (λ (node : MemNode D G). Ready → IsOn tells history health node image) → IfOk result (λ (node : MemNode D G). node.memory.setup ≡ s)
       → IfOk result (λ (node : MemNode D G). Told → (history node.log.disk).now.content ≡ content)
-      → IfOk result (λ (node : MemNode D G). Ready → IsSound tells history health node)
+      → IfOk result (λ (node : MemNode D G). Ready → IsOnDisk tells history health node)
   all_sound (Ok node) Told Ready tells_ formatted sized stored on own same =
       λ ready. sound_of node (formatted (tells_ ready)) sized (stored (tells_ ready)) own (same (tells_ ready)) (on ready)
   all_sound (Err e) Told Ready tells_ formatted sized stored on own same = tt

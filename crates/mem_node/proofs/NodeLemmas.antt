@@ -14,17 +14,15 @@ use Rattle.std.proofs.lemmas.List.{append-nil}
 use Rattle.mini_tx.specs.declared.entry.Entry.{Entry}
 use Rattle.mini_tx.specs.EntryGrammar.{entry_spelling}
 use Rattle.mem_node.specs.declared.mem_node.MemNode.{MemNode}
-use Rattle.mem_node.specs.declared.memory.Memory.{Memory}
-use Rattle.mem_node.specs.declared.node_fault.NodeFault.{NodeFault}
 use Rattle.mem_node.specs.declared.node_fault.NodeFault.TheVariants.{Full, NoMemory}
-use Rattle.mem_node.specs.declared.setup.Setup.{Setup}
+use Rattle.mem_rules.specs.declared.setup.Setup.{Setup}
 use Rattle.mem_node.specs.declared.shut.Shut.{Shut}
 use Rattle.mem_node.specs.declared.shut.Shut.TheVariants as shut
 use Rattle.std.proofs.lemmas.Option.{none-some}
 use Rattle.mem_node.specs.Fault.{node_fault, shut_by, shut_fault}
-use Rattle.mem_node.specs.Fit.{size_of}
-use Rattle.mem_node.specs.Memory.{state_of}
-use Rattle.mem_node.specs.State.{State, after_entry}
+use Rattle.mem_rules.specs.Memory.{state_of}
+use Rattle.mem_rules.proofs.ItemLemmas.{small_image}
+use Rattle.mem_rules.specs.State.{State, after_entry}
 use Rattle.mem_node.specs.Node.{IsSoundOn, IsSound, IsBeforeOrAfter, Handles}
 use Rattle.mem_node.proofs.DiskLemmas.{sound_leaves}
 
@@ -55,33 +53,39 @@ of_first f (inl a) = inl (f a)
 of_first f (inr b) = inr b
 
 module _ {D : Type 0} {G : Ghosts D} (tells : D → Type 0) (history : D → History) (health : D → Health) where
-  -- a crash leaves what a memory node at rest has
-  pub rests : (node : MemNode D G) (entry : Option Entry) → IsSound tells history health node
-      → LeavesOnly (history node.log.disk) (history node.log.disk) (IsBeforeOrAfter node.memory.setup (state_of node.memory) entry)
-  rests node entry sound =
-      let small : size_of node.memory.setup ≤ 69214208 = omega (arith, node.memory.whole, node.memory.small) in
-      no_moment (IsBeforeOrAfter node.memory.setup (state_of node.memory) entry) (history node.log.disk)
-      (λ image left. inl (sound_leaves tells history health node.memory.setup node.log (state_of node.memory) small sound image left node.based))
+  abbrev Sound : MemNode D G → List ℕ → List (List ℕ) → Type 0
+  Sound node image bytes = IsSound tells history health node image bytes
 
-  -- the same node, whatever proves its invariants
+  -- the moments of a call that has this entry
+  abbrev pub Moments : MemNode D G → MemNode D G → Option Entry → Type 0
+  Moments before now entry = (image : List ℕ) (bytes : List (List ℕ)) → Sound before image bytes
+      → LeavesOnly (history before.log.disk) (history now.log.disk) (IsBeforeOrAfter before.memory.setup image bytes entry)
+
+  -- a crash leaves what a memory node at rest has
+  rests : (node : MemNode D G) (entry : Option Entry) → Moments node node entry
+  rests node entry image bytes sound =
+      no_moment (IsBeforeOrAfter node.memory.setup image bytes entry) (history node.log.disk)
+      (λ content left. inl (sound_leaves tells history health node.memory.setup node.log image bytes (state_of node.memory)
+      (small_image node.memory.setup node.memory.valid) sound content left node.based))
+
+  -- the same node, whatever proves its invariants and whatever room it has
   pub record IsSame (before now : MemNode D G) : Type 0 where
-    pub memory : now.memory ≡ before.memory
+    pub setup : now.memory.setup ≡ before.memory.setup
+    pub state : state_of now.memory ≡ state_of before.memory
     pub log : now.log ≡ before.log
     pub shut : now.shut ≡ before.shut
 
-  rests_on : (before now : MemNode D G) (entry : Option Entry) → IsSame before now → IsSound tells history health before
-      → LeavesOnly (history before.log.disk) (history now.log.disk) (IsBeforeOrAfter before.memory.setup (state_of before.memory) entry)
-  rests_on before now entry same sound =
-      subst (λ (l : Log D). LeavesOnly (history before.log.disk) (history l.disk) (IsBeforeOrAfter before.memory.setup (state_of before.memory) entry)) (sym same.log)
-      (rests before entry sound)
+  rests_on : (before now : MemNode D G) (entry : Option Entry) → IsSame before now → Moments before now entry
+  rests_on before now entry same image bytes sound =
+      subst (λ (l : Log D). LeavesOnly (history before.log.disk) (history l.disk) (IsBeforeOrAfter before.memory.setup image bytes entry)) (sym same.log)
+      (rests before entry image bytes sound)
 
   -- there was no memory before anything was done
   pub nothing : {X : Type 0} (before now : MemNode D G) (entry : Option Entry) → IsSame before now → Handles {X = X} tells history health before now entry (Err NoMemory)
   nothing before now entry same = record {
-    setup = ap (λ (m : Memory). m.setup) same.memory;
+    setup = same.setup;
     state = tt;
-    refused = ap state_of same.memory;
-    logged = tt;
+    refused = same.state;
     sound = tt;
     any_moment = rests_on before now entry same;
     down = λ e. absurd cc;
@@ -98,45 +102,42 @@ module _ {D : Type 0} {G : Ghosts D} (tells : D → Type 0) (history : D → His
   }
 
   -- nothing is appended
-  pub rested : {X : Type 0} (before now : MemNode D G) (x : X) → IsSame before now → before.shut ≡ None → Handles tells history health before now None (Ok x)
-  rested before now x same running = record {
-    setup = ap (λ (m : Memory). m.setup) same.memory;
-    state = ap state_of same.memory;
+  pub rested : {X : Type 0} (node : MemNode D G) (x : X) → node.shut ≡ None → Handles tells history health node node None (Ok x)
+  rested node x running = record {
+    setup = refl;
+    state = refl;
     refused = tt;
-    logged = λ bytes logged.
-        subst (λ (l : Log D). IsLog tells history health l (bytes ++ [])) (sym same.log) (subst (IsLog tells history health before.log) (sym (append-nil bytes)) logged);
-    sound = λ sound.
-        subst (λ (m : Memory). IsSoundOn tells history health m.setup now.log (state_of m)) (sym same.memory)
-        (subst (λ (l : Log D). IsSoundOn tells history health before.memory.setup l (state_of before.memory)) (sym same.log) sound);
-    any_moment = rests_on before now None same;
+    sound = λ image bytes sound.
+        subst (λ (all : List (List ℕ)). IsSoundOn tells history health node.memory.setup node.log image all (state_of node.memory)) (sym (append-nil bytes)) sound;
+    any_moment = rests node None;
     down = λ e. absurd cc;
     full = λ e. absurd cc;
     full_when = λ shut none. absurd (none tt);
     no_memory = λ e. absurd cc;
     causes = tt;
-    running = same.shut ∙ running;
+    running = running;
     closes = (λ e. absurd cc, λ e. absurd cc);
-    still = λ speaks. subst (λ (l : Log D). tells l.disk) (sym same.log) speaks.0;
+    still = λ speaks. speaks.0;
     full_log = λ e. absurd cc;
-    passed = subst (λ (l : Log D). Passed 0 (health before.log.disk) (health l.disk)) (sym same.log) (no_calls (health before.log.disk));
+    passed = no_calls (health node.log.disk);
     live = tt;
   }
 
   -- the log refused the entry
-  pub log_refused : {X : Type 0} (before now : MemNode D G) (e : Entry) (fault : LogFault) → now.memory ≡ before.memory → now.shut ≡ shut_by fault → before.shut ≡ None
+  pub log_refused : {X : Type 0} (before now : MemNode D G) (e : Entry) (fault : LogFault) → now.memory.setup ≡ before.memory.setup
+      → state_of now.memory ≡ state_of before.memory → now.shut ≡ shut_by fault → before.shut ≡ None
       → IsAppendFault fault
-      → (IsSound tells history health before → LeavesOnly (history before.log.disk) (history now.log.disk) (IsBeforeOrAfter before.memory.setup (state_of before.memory) (Some e)))
+      → Moments before now (Some e)
       → (fault ≡ log.Failed → Fell 4 (health before.log.disk) (health now.log.disk))
       → (fault ≡ log.Full → 2 ^ 32 ≤ end_of before.log + 5 + length (entry_spelling e))
       → (2 ^ 32 ≤ end_of before.log + 5 + length (entry_spelling e) → fault ≡ log.Full)
       → (fault ≡ log.Failed) ⊎ (now.log ≡ before.log)
       → (Speaks tells health before.log.disk → tells now.log.disk)
       → Handles {X = X} tells history health before now (Some e) (Err (node_fault fault))
-  log_refused before now e log.Failed memory shut was kind moments failed full full_when same still = record {
-    setup = ap (λ (m : Memory). m.setup) memory;
+  log_refused before now e log.Failed setup state shut was kind moments failed full full_when same still = record {
+    setup = setup;
     state = tt;
-    refused = ap state_of memory;
-    logged = tt;
+    refused = state;
     sound = tt;
     any_moment = moments;
     down = λ is. inr (failed refl);
@@ -151,11 +152,10 @@ module _ {D : Type 0} {G : Ghosts D} (tells : D → Type 0) (history : D → His
     passed = tt;
     live = tt;
   }
-  log_refused before now e log.Full memory shut was kind moments failed full full_when same still = record {
-    setup = ap (λ (m : Memory). m.setup) memory;
+  log_refused before now e log.Full setup state shut was kind moments failed full full_when same still = record {
+    setup = setup;
     state = tt;
-    refused = ap state_of memory;
-    logged = tt;
+    refused = state;
     sound = tt;
     any_moment = moments;
     down = λ is. absurd cc;
@@ -170,12 +170,11 @@ module _ {D : Type 0} {G : Ghosts D} (tells : D → Type 0) (history : D → His
     passed = tt;
     live = tt;
   }
-  log_refused before now e (log.Damaged at) memory shut was kind moments failed full full_when same still = absurd kind
-  log_refused before now e log.NoMemory memory shut was kind moments failed full full_when same still = record {
-    setup = ap (λ (m : Memory). m.setup) memory;
+  log_refused before now e (log.Damaged at) setup state shut was kind moments failed full full_when same still = absurd kind
+  log_refused before now e log.NoMemory setup state shut was kind moments failed full full_when same still = record {
+    setup = setup;
     state = tt;
-    refused = ap state_of memory;
-    logged = tt;
+    refused = state;
     sound = tt;
     any_moment = moments;
     down = λ is. absurd cc;
@@ -194,20 +193,19 @@ module _ {D : Type 0} {G : Ghosts D} (tells : D → Type 0) (history : D → His
   -- the log took the entry
   pub log_took : {X : Type 0} (before now : MemNode D G) (e : Entry) (x : X) → now.memory.setup ≡ before.memory.setup
       → state_of now.memory ≡ after_entry (state_of before.memory) e → now.shut ≡ None
-      → ((bytes : List (List ℕ)) → IsLog tells history health before.log bytes → IsLog tells history health now.log (bytes ++ entry_spelling e ∷ []))
-      → (IsSound tells history health before → IsSoundOn tells history health before.memory.setup now.log (after_entry (state_of before.memory) e))
-      → (IsSound tells history health before → LeavesOnly (history before.log.disk) (history now.log.disk) (IsBeforeOrAfter before.memory.setup (state_of before.memory) (Some e)))
+      → ((image : List ℕ) (bytes : List (List ℕ)) → Sound before image bytes
+      → IsSoundOn tells history health before.memory.setup now.log image (bytes ++ entry_spelling e ∷ []) (after_entry (state_of before.memory) e))
+      → Moments before now (Some e)
       → (2 ^ 32 ≤ end_of before.log + 5 + length (entry_spelling e) → ⊥)
       → (Speaks tells health before.log.disk → tells now.log.disk) → Passed 4 (health before.log.disk) (health now.log.disk) → IsLive 4 (health before.log.disk)
       → Handles tells history health before now (Some e) (Ok x)
-  log_took before now e x setup state running logged sound moments room still passed live = record {
+  log_took before now e x setup state running sound moments room still passed live = record {
     setup = setup;
     state = state;
     refused = tt;
-    logged = logged;
-    sound = λ was.
-        subst (λ (s : Setup). IsSoundOn tells history health s now.log (state_of now.memory)) (sym setup)
-        (subst (λ (t : State). IsSoundOn tells history health before.memory.setup now.log t) (sym state) (sound was));
+    sound = λ image bytes was.
+        subst (λ (s : Setup). IsSoundOn tells history health s now.log image (bytes ++ entry_spelling e ∷ []) (state_of now.memory)) (sym setup)
+        (subst (λ (t : State). IsSoundOn tells history health before.memory.setup now.log image (bytes ++ entry_spelling e ∷ []) t) (sym state) (sound image bytes was));
     any_moment = moments;
     down = λ is. absurd cc;
     full = λ is. absurd cc;
@@ -222,61 +220,6 @@ module _ {D : Type 0} {G : Ghosts D} (tells : D → Type 0) (history : D → His
     live = live;
   }
 
-  -- what was done before the answer was made
-  pub handles_err : {X Y : Type 0} (before now : MemNode D G) (entry : Option Entry) (fault : NodeFault)
-      → Handles {X = X} tells history health before now entry (Err fault) → Handles {X = Y} tells history health before now entry (Err fault)
-  handles_err {X = X} {Y = Y} before now entry fault h = record {
-    setup = h.setup;
-    state = tt;
-    refused = h.refused;
-    logged = tt;
-    sound = tt;
-    any_moment = h.any_moment;
-    down = λ is. h.down cc;
-    full = λ is. h.full cc;
-    full_when = λ running none. of_both (h.full_when running none);
-    no_memory = λ is. h.no_memory cc;
-    causes = h.causes;
-    running = tt;
-    closes = (λ is. h.closes.0 cc, λ is. h.closes.1 cc);
-    still = h.still;
-    full_log = λ is. h.full_log cc;
-    passed = tt;
-    live = tt;
-  }
-    where
-      of_both : {Z : Type 0} → (◌≡◌ {A = Result Z NodeFault} (Err fault) (Err Full)) ⊎ (◌≡◌ {A = Result Z NodeFault} (Err fault) (Err NoMemory))
-          → (◌≡◌ {A = Result Y NodeFault} (Err fault) (Err Full)) ⊎ (◌≡◌ {A = Result Y NodeFault} (Err fault) (Err NoMemory))
-      of_both (inl e) = inl cc
-      of_both (inr e) = inr cc
-
-  pub handles_ok : {X Y : Type 0} (before now : MemNode D G) (entry : Option Entry) (x : X) (y : Y)
-      → Handles tells history health before now entry (Ok x) → Handles tells history health before now entry (Ok y)
-  handles_ok {X = X} {Y = Y} before now entry x y h = record {
-    setup = h.setup;
-    state = h.state;
-    refused = tt;
-    logged = h.logged;
-    sound = h.sound;
-    any_moment = h.any_moment;
-    down = λ is. absurd cc;
-    full = λ is. absurd cc;
-    full_when = λ running none. never (h.full_when running none);
-    no_memory = λ is. absurd cc;
-    causes = tt;
-    running = h.running;
-    closes = (λ is. absurd cc, λ is. absurd cc);
-    still = h.still;
-    full_log = λ is. absurd cc;
-    passed = h.passed;
-    live = h.live;
-  }
-    where
-      never : (◌≡◌ {A = Result X NodeFault} (Ok x) (Err Full)) ⊎ (◌≡◌ {A = Result X NodeFault} (Ok x) (Err NoMemory))
-          → (◌≡◌ {A = Result Y NodeFault} (Ok y) (Err Full)) ⊎ (◌≡◌ {A = Result Y NodeFault} (Ok y) (Err NoMemory))
-      never (inl e) = absurd cc
-      never (inr e) = absurd cc
-
   -- it was shut before
   pub still_shut : {X : Type 0} (node : MemNode D G) (entry : Option Entry) (shut : Shut) → node.shut ≡ Some shut
       → Handles {X = X} tells history health node node entry (Err (shut_fault shut))
@@ -284,7 +227,6 @@ module _ {D : Type 0} {G : Ghosts D} (tells : D → Type 0) (history : D → His
     setup = refl;
     state = tt;
     refused = refl;
-    logged = tt;
     sound = tt;
     any_moment = rests node entry;
     down = λ is. inl was;
@@ -303,7 +245,6 @@ module _ {D : Type 0} {G : Ghosts D} (tells : D → Type 0) (history : D → His
     setup = refl;
     state = tt;
     refused = refl;
-    logged = tt;
     sound = tt;
     any_moment = rests node entry;
     down = λ is. absurd cc;

@@ -5,9 +5,9 @@ use Rattle.disk_model.specs.LogBytes.{entry_bytes, log_bytes}
 use Rattle.gate_log.proofs.LogLemmas.{length-log_bytes-more}
 use Rattle.mini_tx.specs.declared.entry.Entry.{Entry}
 use Rattle.mini_tx.specs.EntryReading.{entry_of}
-use Rattle.mem_node.specs.declared.setup.Setup.{Setup}
-use Rattle.mem_node.specs.State.{State, after_entry}
-use Rattle.mem_node.specs.Fit.{IsFit, IsPlain}
+use Rattle.mem_rules.specs.declared.setup.Setup.{Setup}
+use Rattle.mem_rules.specs.State.{State, after_entry}
+use Rattle.mem_rules.specs.Fit.{IsFit}
 use Rattle.mem_node.specs.declared.node_fault.NodeFault.{NodeFault}
 use Rattle.mem_node.specs.declared.node_fault.NodeFault.TheVariants.{Down, Full, Other, Damaged, NoMemory}
 use Rattle.mem_node.specs.Disk.{Makes, IsUnfit, IsReplayFault}
@@ -44,7 +44,7 @@ module _ (entries : List (List ℕ)) (i : ℕ) (x : List ℕ) (below : i < lengt
       (subst (λ (t : State). Makes s image (take i entries ++ x ∷ []) t) (sym taken.3) (makes_more s image (take i entries) state x taken.0 makes taken.1 taken.2))
 
   pub is_unfit : (s : Setup) (image : List ℕ) (state : State) (at : ℕ) → Makes s image (take i entries) state → at ≡ 2 ^ 32 + length (log_bytes (take i entries))
-      → ((e : Entry) → entry_of x ≡ Ok e → IsFit s state e × IsPlain e → ⊥) → IsUnfit s image entries at
+      → ((e : Entry) → entry_of x ≡ Ok e → IsFit s state e → ⊥) → IsUnfit s image entries at
   is_unfit s image state at makes there unfit = record {
     front = take i entries;
     bad = x;

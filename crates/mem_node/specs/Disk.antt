@@ -6,9 +6,9 @@ use Rattle.mini_tx.specs.declared.entry.Entry.{Entry}
 use Rattle.mini_tx.specs.EntryReading.{entry_of}
 use Rattle.mem_node.specs.declared.node_fault.NodeFault.{NodeFault}
 use Rattle.mem_node.specs.declared.node_fault.NodeFault.TheVariants.{Down, Full, Other, Damaged, NoMemory}
-use Rattle.mem_node.specs.declared.setup.Setup.{Setup}
-use Rattle.mem_node.specs.State.{State, opened, after_entry, after}
-use Rattle.mem_node.specs.Fit.{IsFit, IsPlain, size_of}
+use Rattle.mem_rules.specs.declared.setup.Setup.{Setup}
+use Rattle.mem_rules.specs.State.{State, opened, after_entry, after}
+use Rattle.mem_rules.specs.Fit.{IsFit, size_of}
 use Rattle.mem_node.specs.Header.{IsFormatted}
 
 -- each entry is fit behind those before it
@@ -38,7 +38,7 @@ pub record StandsFor (s : Setup) (content : Content) (state : State) : Type 0 wh
   pub makes : Makes s image bytes state
 
 -- the gate at this place opens an entry that is none, or that the log of this memory node may not have behind those
--- before it; entries that keep, decide or forget records are not built
+-- before it, which are all fit
 pub record IsUnfit (s : Setup) (image : List ℕ) (bytes : List (List ℕ)) (at : ℕ) : Type 0 where
   pub front : List (List ℕ)
   pub bad : List ℕ
@@ -47,7 +47,7 @@ pub record IsUnfit (s : Setup) (image : List ℕ) (bytes : List (List ℕ)) (at 
   pub there : at ≡ 2 ^ 32 + length (log.log_bytes front)
   pub state : State
   pub before : Makes s image front state
-  pub unfit : (e : Entry) → entry_of bad ≡ Ok e → IsFit s state e × IsPlain e → ⊥
+  pub unfit : (e : Entry) → entry_of bad ≡ Ok e → IsFit s state e → ⊥
 
 -- why a stored image and a log's bytes are no state of this memory node
 abbrev pub IsReplayFault : NodeFault → (ℕ → Type 0) → Type 0

@@ -4,9 +4,9 @@ use Rattle.disk_model.specs.Crash.{Content, Snapshot, Holds}
 use Rattle.mini_tx.specs.FreshImages.{fresh_image}
 use Rattle.mem_node.specs.declared.node_fault.NodeFault.{NodeFault}
 use Rattle.mem_node.specs.declared.node_fault.NodeFault.TheVariants.{Down, Full, Other, Damaged, NoMemory}
-use Rattle.mem_node.specs.declared.setup.Setup.{Setup}
+use Rattle.mem_rules.specs.declared.setup.Setup.{Setup}
 use Rattle.mem_node.specs.Header.{header_bytes}
-use Rattle.mem_node.specs.State.{opened}
+use Rattle.mem_rules.specs.State.{opened}
 use Rattle.mem_node.specs.Disk.{StandsFor}
 
 -- the disk stands for a memory node that took no entry yet, with the fresh image

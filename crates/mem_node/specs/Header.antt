@@ -3,7 +3,7 @@ use Rattle.std.specs.Prelude.{◌≡◌, ℕ, List, [], ◌∷◌}
 use Rattle.std.specs.List.{flat_map}
 use Rattle.sfs_xdr.specs.Items.{word}
 use Rattle.disk_model.specs.Crash.{Content, Holds}
-use Rattle.mem_node.specs.declared.setup.Setup.{Setup}
+use Rattle.mem_rules.specs.declared.setup.Setup.{Setup}
 
 -- the mark "SFSD", the version, the role, the number of the memory node, and the numbers of the cluster
 unfoldable pub header_words : Setup → List ℕ

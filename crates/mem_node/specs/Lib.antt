@@ -1,12 +1,7 @@
-pub mod Identifiers
-pub mod Items
-pub mod State
-pub mod Rules
-pub mod Fit
-pub mod Memory
 pub mod Header
 pub mod Disk
 pub mod Node
+pub mod Laws
 pub mod Fault
 pub mod Format
 pub mod Lay

@@ -6,19 +6,17 @@ use Rattle.disk_model.specs.Health.{Health, Fell, IsLive, Passed, Speaks}
 use Rattle.gate_log.specs.declared.log.Log.{Log}
 use Rattle.gate_log.specs.Log.{IsLog, end_of}
 use Rattle.mini_tx.specs.declared.entry.Entry.{Entry}
-use Rattle.mini_tx.specs.declared.placed_item.PlacedItem.{PlacedItem}
-use Rattle.mini_tx.specs.declared.tx_id.TxId.{TxId}
 use Rattle.mini_tx.specs.EntryGrammar.{entry_spelling}
 use Rattle.mem_node.specs.declared.mem_node.MemNode.{MemNode}
 use Rattle.mem_node.specs.declared.node_fault.NodeFault.{NodeFault}
 use Rattle.mem_node.specs.declared.node_fault.NodeFault.TheVariants.{Down, Full, Other, Damaged, NoMemory}
-use Rattle.mem_node.specs.declared.setup.Setup.{Setup}
+use Rattle.mem_rules.specs.declared.setup.Setup.{Setup}
 use Rattle.mem_node.specs.declared.shut.Shut.{Shut}
 use Rattle.mem_node.specs.declared.shut.Shut.TheVariants as shut
-use Rattle.mem_node.specs.Memory.{state_of, node_with}
-use Rattle.mem_node.specs.State.{State, after_one}
-use Rattle.mem_node.specs.Rules.{Node, Reaction, on_prepare}
-use Rattle.mem_node.specs.Disk.{Has, Makes, StandsFor}
+use Rattle.mem_rules.specs.Memory.{state_of, setup_in, node_with}
+use Rattle.mem_rules.specs.State.{State, after_one}
+use Rattle.mem_rules.specs.Rules.{Node}
+use Rattle.mem_node.specs.Disk.{Has, Makes}
 
 abbrev pub log_of : {D : Type 0} {G : Ghosts D} → MemNode D G → Log D
 log_of node = node.log
@@ -27,7 +25,7 @@ abbrev pub node_disk_of : {D : Type 0} {G : Ghosts D} → MemNode D G → D
 node_disk_of node = node.log.disk
 
 abbrev pub setup_of : {D : Type 0} {G : Ghosts D} → MemNode D G → Setup
-setup_of node = node.memory.setup
+setup_of node = setup_in node.memory
 
 -- what it took from its log
 abbrev pub node_state_of : {D : Type 0} {G : Ghosts D} → MemNode D G → State
@@ -51,11 +49,10 @@ abbrev pub HasRoom : {D : Type 0} → Log D → Option Entry → Type 0
 HasRoom log None = Unit {0}
 HasRoom log (Some e) = end_of log + 5 + length (entry_spelling e) < 2 ^ 32
 
--- the disk below a log stands for this state: nothing is pending there, and the log may be appended to
+-- the disk below a log has this stored image and the bytes of these entries, which make this state: nothing is pending
+-- there, and the log may be appended to
 pub record IsSoundOn {D : Type 0} (tells : D → Type 0) (history : D → History) (health : D → Health)
-    (s : Setup) (log : Log D) (state : State) : Type 0 where
-  pub image : List ℕ
-  pub bytes : List (List ℕ)
+    (s : Setup) (log : Log D) (image : List ℕ) (bytes : List (List ℕ)) (state : State) : Type 0 where
   pub logged : IsLog tells history health log bytes
   pub has : Has s (history log.disk).now.content image bytes
   pub makes : Makes s image bytes state
@@ -67,25 +64,25 @@ pub record IsOn {D : Type 0} {G : Ghosts D} (tells : D → Type 0) (history : D 
   pub logged : IsLog tells history health node.log bytes
   pub makes : Makes node.memory.setup image bytes (state_of node.memory)
 
+-- its disk has this stored image and the bytes of these entries, and they make what it has
+abbrev pub IsSound : {D : Type 0} {G : Ghosts D} → (D → Type 0) → (D → History) → (D → Health) → MemNode D G → List ℕ → List (List ℕ) → Type 0
+IsSound tells history health node image bytes = IsSoundOn tells history health node.memory.setup node.log image bytes (state_of node.memory)
+
 -- its disk stands for what it has
-abbrev pub IsSound : {D : Type 0} {G : Ghosts D} → (D → Type 0) → (D → History) → (D → Health) → MemNode D G → Type 0
-IsSound tells history health node = IsSoundOn tells history health node.memory.setup node.log (state_of node.memory)
+abbrev pub IsOnDisk : {D : Type 0} {G : Ghosts D} → (D → Type 0) → (D → History) → (D → Health) → MemNode D G → Type 0
+IsOnDisk tells history health node = (image : List ℕ) × ((bytes : List (List ℕ)) × IsSound tells history health node image bytes)
 
--- the disk stands for the state before an entry, or for the one after it
-abbrev pub IsBeforeOrAfter : Setup → State → Option Entry → Content → Type 0
-IsBeforeOrAfter s state e image = StandsFor s image state ⊎ StandsFor s image (after_one state e)
-
--- what it does with a prepare of which it is the one participant
-abbrev pub reaction_to : {D : Type 0} {G : Ghosts D} → MemNode D G → TxId → List PlacedItem → Reaction
-reaction_to node id items = on_prepare (node_of node) id (node.memory.setup.index ∷ []) items
+-- the disk has the bytes of the entries before, or of those and the new one
+abbrev pub IsBeforeOrAfter : Setup → List ℕ → List (List ℕ) → Option Entry → Content → Type 0
+IsBeforeOrAfter s image bytes e content = Has s content image bytes ⊎ Has s content image (bytes ++ appended e)
 
 -- why a message is not handled
-abbrev pub IsVoteFault : NodeFault → Type 0
-IsVoteFault Down = Unit {0}
-IsVoteFault Full = Unit {0}
-IsVoteFault Other = ⊥
-IsVoteFault (Damaged at) = ⊥
-IsVoteFault NoMemory = Unit {0}
+abbrev pub IsHandleFault : NodeFault → Type 0
+IsHandleFault Down = Unit {0}
+IsHandleFault Full = Unit {0}
+IsHandleFault Other = ⊥
+IsHandleFault (Damaged at) = ⊥
+IsHandleFault NoMemory = Unit {0}
 
 -- how many writes and syncs an entry takes
 abbrev pub steps_of : Option Entry → ℕ
@@ -104,14 +101,13 @@ pub record Handles {D X : Type 0} {G : Ghosts D} (tells : D → Type 0) (history
   -- after Ok it has what the entry makes; after a refusal what it had
   pub state : OnOk result (state_of now.memory ≡ after_one (state_of before.memory) entry)
   pub refused : OnErr result (state_of now.memory ≡ state_of before.memory)
-  -- after Ok the entry stands in the log, and is safe: nothing is pending, and the disk stands for what it has
-  pub logged : OnOk result ((bytes : List (List ℕ)) → IsLog tells history health before.log bytes
-      → IsLog tells history health now.log (bytes ++ appended entry))
-  pub sound : OnOk result (IsSound tells history health before → IsSound tells history health now)
-  -- a crash at any moment leaves the state before, or the one after
-  pub any_moment : IsSound tells history health before
+  -- after Ok the entry stands in the log behind all that stood there, and is safe: nothing is pending
+  pub sound : OnOk result ((image : List ℕ) (bytes : List (List ℕ)) → IsSound tells history health before image bytes
+      → IsSound tells history health now image (bytes ++ appended entry))
+  -- a crash at any moment leaves the entries that stood in the log, or those and the new one
+  pub any_moment : (image : List ℕ) (bytes : List (List ℕ)) → IsSound tells history health before image bytes
       → LeavesOnly (history before.log.disk) (history now.log.disk)
-      (IsBeforeOrAfter before.memory.setup (state_of before.memory) entry)
+      (IsBeforeOrAfter before.memory.setup image bytes entry)
   -- after each answer the disk still tells what it holds, so it may be restarted and loaded
   pub still : Speaks tells health before.log.disk → tells now.log.disk
   -- it answers Down only where the disk failed, now or in an earlier call
@@ -123,7 +119,7 @@ pub record Handles {D X : Type 0} {G : Ghosts D} (tells : D → Type 0) (history
   pub full_log : IsErrOf result Full → now.log ≡ before.log
   -- after want of memory the log is as before
   pub no_memory : IsErrOf result NoMemory → (now.log ≡ before.log) × (now.shut ≡ before.shut)
-  pub causes : IfErr result IsVoteFault
+  pub causes : IfErr result IsHandleFault
   -- after Down and Full it has to be loaded again
   pub running : OnOk result (now.shut ≡ None)
   pub closes : (IsErrOf result Down → now.shut ≡ Some shut.Down) × (IsErrOf result Full → now.shut ≡ Some shut.Full)

@@ -6,9 +6,9 @@ ghost use Rattle.mem_node.specs.Format.{IsLaying, IsDone, front_bytes};
 
 use crate::header::{FORMATTED, HEADER_AT, MARK_AT, header};
 use crate::lay::lay;
-use crate::setup::Setup;
 use disk_model::Disk;
 use gate_log::write_through;
+use mem_rules::Setup;
 use sfs_base::{Failed, NoMemory};
 use std::alloc::Global;
 

@@ -2,11 +2,11 @@ ghost use Rattle.std.specs.Prelude.{◌≡◌, ◌++◌, ◌∷◌, ◌≤◌, �
 ghost use Rattle.fs_layout.specs.Inodes.{inode_words};
 ghost use Rattle.fs_layout.specs.Words.{spelled};
 ghost use Rattle.mini_tx.specs.FreshImages.{first_page, fresh_image, root as root_fields};
-ghost use Rattle.mem_node.specs.Fit.{IsSetup};
+ghost use Rattle.mem_rules.specs.Fit.{IsSetup};
 
 use crate::load::image_bytes;
-use crate::setup::Setup;
 use fs_layout::{Attrs, BLOCK_BYTES, INODE_BYTES, Superblock, write_inode, write_superblock};
+use mem_rules::Setup;
 use mini_tx::NoMemory;
 use std::alloc::Global;
 

@@ -3,7 +3,7 @@ ghost use Rattle.std.specs.List.{flat_map};
 ghost use Rattle.sfs_xdr.specs.Items.{word};
 ghost use Rattle.mem_node.specs.Header.{header_words, header_bytes};
 
-use crate::setup::Setup;
+use mem_rules::Setup;
 use sfs_base::NoMemory;
 use sfs_xdr::Writer;
 use std::alloc::Global;

@@ -3,17 +3,16 @@ ghost use Rattle.disk_model.specs.Crash.{Holds};
 ghost use Rattle.disk_model.specs.Health.{Fell, IsLive, Passed, Speaks};
 ghost use Rattle.disk_model.specs.LogBytes.{log_bytes};
 ghost use Rattle.mem_node.specs.Header.{IsFormatted};
-ghost use Rattle.mem_node.specs.Fit.{IsSetup, size_of};
+ghost use Rattle.mem_rules.specs.Fit.{IsSetup, size_of};
 ghost use Rattle.mem_node.specs.Disk.{IsLoadFault, IsReplayFault, IsUnfit, Makes};
-ghost use Rattle.mem_node.specs.Memory.{state_of};
+ghost use Rattle.mem_rules.specs.Memory.{state_of, setup_in};
 
 use crate::header::{HEADER_AT, MARK_AT, header, is_mark};
-use crate::memory::Memory;
 use crate::node_fault::NodeFault;
 use crate::replay::replay;
-use crate::setup::Setup;
 use disk_model::{Disk, Entries};
 use fs_layout::Layout;
+use mem_rules::{Memory, Setup};
 use std::alloc::Global;
 
 /// The place of the stored image on the disk.
@@ -87,11 +86,11 @@ pub(crate) fn taken(
     image: Vec<u8>,
     entries: &Entries,
 ) -> Result<Memory, NodeFault>
+    requires setup { IsSetup setup }
     requires sized { vec_len image ≡ size_of setup }
-    requires small { vec_len image ≤ 69214208 }
     requires within { length (log_bytes entries.now) < 2 ^ 32 }
     ensures made { IfOk result (λ memory. Makes setup image.items entries.now (state_of memory)) }
-    ensures setup { IfOk result (λ memory. memory.setup ≡ setup) }
+    ensures setup { IfOk result (λ memory. setup_in memory ≡ setup) }
     ensures refused { IfErr result (λ fault. IsReplayFault fault (IsUnfit setup image.items entries.now)) }
 {
     let mut memory = Memory::opened(alloc, setup, image)?;

@@ -5,17 +5,17 @@ ghost use Rattle.disk_model.specs.Health.{Fell, Passed, Speaks};
 ghost use Rattle.disk_model.specs.LogBytes.{log_bytes, IsDamaged};
 ghost use Rattle.gate_log.specs.Log.{IsLog, base_of, has_failed, disk_of};
 ghost use Rattle.mem_node.specs.Disk.{IsLoadFault, IsReplayFault, IsUnfit, IsBrokenLog, Makes};
-ghost use Rattle.mem_node.specs.Fit.{size_of};
-ghost use Rattle.mem_node.specs.Memory.{state_of};
+ghost use Rattle.mem_rules.specs.Fit.{IsSetup, size_of};
+ghost use Rattle.mem_rules.specs.Memory.{state_of};
 ghost use Rattle.mem_node.specs.Node.{log_of, setup_of, shut_of, node_state_of, node_disk_of, IsOn};
 
 use crate::load::taken;
 use crate::mem_node::MemNode;
 use crate::node_fault::NodeFault;
 use crate::replay::LOG_AT;
-use crate::setup::Setup;
 use disk_model::{Disk, Entries};
 use gate_log::Log;
+use mem_rules::Setup;
 use std::alloc::Global;
 
 /// The memory node with this stored image, and the log of this disk.
@@ -25,8 +25,8 @@ pub(crate) fn load_log<D: Disk>(
     setup: Setup,
     image: Vec<u8>,
 ) -> Result<MemNode<D>, (NodeFault, D)>
+    requires setup { IsSetup setup }
     requires sized { vec_len image ≡ size_of setup }
-    requires small { vec_len image ≤ 69214208 }
     ensures made { IfOk result (λ node. IsReady D.tells D.history D.health disk
         → IsOn D.tells D.history D.health node image.items) }
     ensures setup { IfOk result (λ node. setup_of node ≡ setup) }
@@ -55,8 +55,8 @@ fn replayed<D: Disk>(
     setup: Setup,
     image: Vec<u8>,
 ) -> Result<MemNode<D>, (NodeFault, D)>
+    requires setup { IsSetup setup }
     requires sized { vec_len image ≡ size_of setup }
-    requires small { vec_len image ≤ 69214208 }
     requires within { length (log_bytes entries.now) < 2 ^ 32 }
     requires based { base_of log ≡ 2 ^ 32 }
     requires ready { has_failed log ≡ false }

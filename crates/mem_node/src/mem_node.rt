@@ -1,23 +1,20 @@
 ghost use Rattle.std.specs.Prelude.{◌≡◌, ◌^◌, ℕ, false, None};
 ghost use Rattle.gate_log.specs.Log.{base_of, has_failed};
 
-use crate::ballot::Ballot;
 use crate::format::{front, write_node};
 use crate::fresh::fresh;
 use crate::load::stored_image;
 use crate::load_log::load_log;
-use crate::memory::Memory;
 use crate::node_fault::NodeFault;
-use crate::setup::Setup;
 use crate::shut::Shut;
-use crate::votes::{copied, entry_of, id_is_typed, is_prepare, vote_is_typed};
 use disk_model::{Disk, Stop};
 use gate_log::Log;
-use mini_tx::{Actor, Entry, Message, NoMemory, PlacedItem, TxId, Vote, write_entry};
+use mem_rules::{Memory, Reaction, Setup, names_are_typed};
+use mini_tx::{Actor, Entry, Message, TxId, Vote, write_entry};
 use std::alloc::Global;
 
 /// A memory node: a participant with its redo log.
-#[derive(Debug, Drop)]
+#[derive(Drop)]
 pub struct MemNode<D: Disk> {
     pub(crate) alloc: Global,
     pub(crate) memory: Memory,
@@ -36,14 +33,15 @@ impl<D: Disk> MemNode<D> {
     ghost use Rattle.mem_node.specs.Format.{IsFresh, IsFormatting, IsFormatFault};
     ghost use Rattle.mem_node.specs.Header.{IsFormatted};
     ghost use Rattle.mem_node.specs.Disk.{IsLoadFault, IsBroken};
-    ghost use Rattle.mini_tx.specs.declared.message.Message.TheVariants.{Voted};
     ghost use Rattle.mini_tx.specs.EntryGrammar.{FitsEntry};
-    ghost use Rattle.mini_tx.specs.Laws.{IsTypedEntry};
-    ghost use Rattle.mem_node.specs.Fit.{IsSetup, IsFit, IsFitMessage, IsFitPrepare, IsBuilt, IsOfCluster, IsPlain, IsCast};
+    ghost use Rattle.std.specs.Prelude.{◌<◌};
+    ghost use Rattle.std.specs.Option.{option_copied};
+    ghost use Rattle.mem_rules.specs.Fit.{IsSetup, IsFit, IsFitMessage, IsOfCluster, IsOfTransactions};
+    ghost use Rattle.mem_rules.specs.Memory.{vote_of};
+    ghost use Rattle.mem_rules.specs.Reactions.{IsFitNext};
+    ghost use Rattle.mem_rules.specs.Rules.{react};
     ghost use Rattle.mem_node.specs.Fault.{shut_fault};
-    ghost use Rattle.mem_node.specs.Node.{setup_of, node_state_of, node_of, node_disk_of, shut_of, reaction_to, IsSound, Handles};
-    ghost use Rattle.mem_node.specs.Rules.{react, rule_for, is_new, vote_by, entry_of_vote};
-    ghost use Rattle.mem_node.specs.Items.{any_write};
+    ghost use Rattle.mem_node.specs.Node.{setup_of, node_state_of, node_of, node_disk_of, shut_of, IsOnDisk, Handles};
 
     /// Formats the disk of a memory node: the fresh image, the header and a log without entries, between a
     /// mark that is taken away before and set after them, each step safe before the next. A crash in it
@@ -72,14 +70,13 @@ impl<D: Disk> MemNode<D> {
     /// The memory node of this disk: its stored image, with all that its log made of it. Nothing may be
     /// pending on the disk. A refused call hands the disk back. [`NodeFault::Down`]: the disk failed.
     /// [`NodeFault::Other`]: the disk is not formatted, or its header is that of another memory node or
-    /// cluster. [`NodeFault::Damaged`]: the log is damaged, or has an entry that is none, that this memory
-    /// node cannot have written, or that keeps, decides or forgets a record of several participants, which
-    /// is not built; `at` is the place of its gate. [`NodeFault::NoMemory`]: there is no memory.
+    /// cluster. [`NodeFault::Damaged`]: the log is damaged, or has an entry that is none or that this
+    /// memory node cannot have written behind those before it; `at` is the place of the first such gate. [`NodeFault::NoMemory`]: there is no memory.
     pub fn load(alloc: Global, disk: D, setup: Setup) -> Result<MemNode<D>, (NodeFault, D)>
         requires { IsSetup setup }
-        // It has what the log that is found makes of the stored image, and the disk stands for that.
+        // It has what the log that is found makes of the stored image.
         ensures sound { IfOk result (λ node. IsReady D.tells D.history D.health disk
-            → IsSound D.tells D.history D.health node) }
+            → IsOnDisk D.tells D.history D.health node) }
         ensures setup { IfOk result (λ node. setup_of node ≡ setup) }
         ensures running { IfOk result (λ node. shut_of node ≡ None) }
         ensures refused { IfErr result (λ refusal. IsLoadFault refusal.0
@@ -116,17 +113,25 @@ impl<D: Disk> MemNode<D> {
         self.log.starved()
     }
 
+    /// The vote on an identifier of which a record is kept, or which is the floor of its coordinator. It takes
+    /// no memory.
+    pub fn vote(&self, id: TxId) -> Option<&Vote>
+        requires { id.coord < (setup_of self.now).geometry.nodes }
+        ensures { option_copied result ≡ vote_of (node_state_of self.now) id }
+    {
+        self.memory.vote(id)
+    }
+
     /// What the memory node does with a message (`docs/PROMISES.md`, "A memory node"): its answer, where it
-    /// has one. A vote that has an entry leaves only once that entry is safe. The message and its sender are
-    /// of this cluster, and the message is a `prepare` of which this memory node is the one participant, with
-    /// items that are valid together, or none for a memory node: that changes nothing and has no answer.
-    /// [`NodeFault::Down`]: the disk failed. [`NodeFault::Full`]: the vote's entry would end past the log's
-    /// limit. After these two the same is answered until the memory node is loaded again.
-    /// [`NodeFault::NoMemory`]: there is no memory; nothing was voted, and all is as before.
+    /// has one. An answer that has an entry leaves only once that entry is safe. The message and its sender
+    /// are of this cluster, and the message is none about cuts. One that is for another actor changes nothing
+    /// and has no answer. [`NodeFault::Down`]: the disk failed. [`NodeFault::Full`]: the entry would end past
+    /// the log's limit. After these two the same is answered until the memory node is loaded again.
+    /// [`NodeFault::NoMemory`]: there is no memory; nothing was done, and all is as before.
     pub fn handle(&mut self, from: Actor, message: &Message) -> Result<Option<Message>, NodeFault>
         requires sender { IsOfCluster (setup_of self.old).geometry from }
         requires fit { IsFitMessage (setup_of self.old) message.now }
-        requires built { IsBuilt (setup_of self.old) message.now }
+        requires built { IsOfTransactions message.now }
         ensures answer { IfOk result (λ answer. answer ≡ (react (node_of self.old) message.now).answer) }
         ensures handled { Handles D.tells D.history D.health self.old self.new
             (react (node_of self.old) message.now).entry result }
@@ -137,80 +142,46 @@ impl<D: Disk> MemNode<D> {
         if let Some(shut) = self.shut {
             return Err(shut.fault());
         }
-        if !is_prepare(message) {
-            return Ok(None);
-        }
-        match message {
-            Message::Prepare { id, items, .. } => {
-                let vote = self.prepare(*id, items.as_slice())?;
-                Ok(Some(Message::Voted { id: *id, vote }))
-            }
-            _ => unreachable!(),
-        }
+        let reaction = self.memory.react(message)?;
+        self.carry_out(reaction)
     }
 
-    /// Votes on the items of an identifier.
-    fn prepare(&mut self, id: TxId, items: &[PlacedItem]) -> Result<Vote, NodeFault>
+    /// Appends the entry of a reaction, and gives its answer once the entry is safe.
+    fn carry_out(&mut self, reaction: Reaction) -> Result<Option<Message>, NodeFault>
         requires running { shut_of self.old ≡ None }
-        requires fit { IsFitPrepare (setup_of self.old) id ((setup_of self.old).index ∷ []) items.now }
-        ensures answer { IfOk result (λ vote. (reaction_to self.old id items.now).answer ≡ Some (Voted id vote)) }
-        ensures handled { Handles D.tells D.history D.health self.old self.new
-            (reaction_to self.old id items.now).entry result }
+        requires fit { IsFitNext (setup_of self.old) (node_state_of self.old) reaction.entry }
+        ensures answer { IfOk result (λ answer. answer ≡ reaction.answer) }
+        ensures handled { Handles D.tells D.history D.health self.old self.new reaction.entry result }
     {
-        let ballot = self.ballot(id, items)?;
-        if ballot.has_entry {
-            self.cast(id, items, ballot.vote)
-        } else {
-            Ok(ballot.vote)
+        let Reaction { entry, answer } = reaction;
+        match entry {
+            Some(entry) => self.log_entry(entry, answer),
+            None => Ok(answer),
         }
     }
 
-    /// The vote on the items of an identifier.
-    fn ballot(&self, id: TxId, items: &[PlacedItem]) -> Result<Ballot, NoMemory>
-        requires { IsFitPrepare (setup_of self.now) id ((setup_of self.now).index ∷ []) items.now }
-        ensures vote { IfOk result (λ ballot. ballot.vote ≡ vote_by (node_state_of self.now).image items.now (rule_for (node_of self.now) id items.now)) }
-        ensures entry { IfOk result (λ ballot. ballot.has_entry ≡ (is_new (rule_for (node_of self.now) id items.now) && any_write items.now)) }
-    {
-        let rule = self.memory.rule_for(self.alloc, id, items)?;
-        let has_entry = rule.has_entry(items);
-        Ok(Ballot {
-            vote: self.memory.vote_by(self.alloc, rule, items)?,
-            has_entry,
-        })
-    }
-
-    /// Votes on a new identifier, once the vote's entry is safe.
-    fn cast(&mut self, id: TxId, items: &[PlacedItem], vote: Vote) -> Result<Vote, NodeFault>
+    /// Appends an entry, takes it once it is safe, and then gives the answer. The memory that it will need is
+    /// taken before. Where the log refuses it, nothing more is answered.
+    fn log_entry(
+        &mut self,
+        entry: Entry,
+        answer: Option<Message>,
+    ) -> Result<Option<Message>, NodeFault>
         requires running { shut_of self.old ≡ None }
-        requires cast { IsCast (setup_of self.old) id items.now vote }
-        ensures answer { IfOk result (λ told. told ≡ vote) }
-        ensures handled { Handles D.tells D.history D.health self.old self.new
-            (Some (entry_of_vote id ((setup_of self.old).index ∷ []) items.now vote)) result }
-    {
-        id_is_typed(id);
-        vote_is_typed(&vote);
-        let told = copied(&vote)?;
-        let entry = entry_of(self.alloc, id, items, vote)?;
-        self.take(entry)?;
-        Ok(told)
-    }
-
-    /// Appends the entry of a vote, and then takes it. Where the log refuses it, nothing more is answered.
-    fn take(&mut self, entry: Entry) -> Result<(), NodeFault>
-        requires running { shut_of self.old ≡ None }
-        requires spelled { FitsEntry entry }
-        requires typed { IsTypedEntry entry }
         requires fit { IsFit (setup_of self.old) (node_state_of self.old) entry }
-        requires plain { IsPlain entry }
-        ensures { Handles D.tells D.history D.health self.old self.new (Some entry) result }
+        requires spelled { FitsEntry entry }
+        ensures answer { IfOk result (λ given. given ≡ answer) }
+        ensures handled { Handles D.tells D.history D.health self.old self.new (Some entry) result }
     {
+        names_are_typed(&entry);
+        let room = self.memory.reserve(&entry)?;
         let bytes = write_entry(self.alloc, &entry)?;
         if let Err(fault) = self.log.append(&bytes) {
             self.shut = Shut::by(fault);
             return Err(NodeFault::from(fault));
         }
-        self.memory.settle(entry);
-        Ok(())
+        self.memory.settle(entry, room);
+        Ok(answer)
     }
 }
 

@@ -2,10 +2,10 @@ use Rattle.std.proofs.Common.{◌≡◌, ◌<◌, ℕ, List, length, Ok, sym, ap
 use Rattle.std.proofs.lemmas.Result.{err_from_is_err_and}
 use Rattle.mini_tx.specs.declared.entry.Entry.{Entry}
 use Rattle.mini_tx.specs.EntryReading.{entry_of}
-use Rattle.mem_node.specs.declared.setup.Setup.{Setup}
+use Rattle.mem_rules.specs.declared.setup.Setup.{Setup}
 use Rattle.mem_node.specs.Disk.{IsUnfit}
-use Rattle.mem_node.specs.Fit.{IsFit, IsPlain}
-use Rattle.mem_node.specs.Memory.{state_of}
+use Rattle.mem_rules.specs.Fit.{IsFit}
+use Rattle.mem_rules.specs.Memory.{state_of}
 use Rattle.mem_node.proofs.ReplayLemmas.{length_more, length_within, makes_next, is_unfit, replay_fault}
 use Rattle.mem_node.proofs.replay.replay.Goals as goal
 
@@ -29,10 +29,10 @@ returns-in_err-take-clause-refused c =
     let below : c.loop-bytes.bytes-index < length c.args.entries.now = omega arith in
     rw (p.1, p.2)
     (replay_fault c.in_err-take.field-0.0
-    (λ place. (place ≡ c.loop-bytes.at) × ((e : Entry) → entry_of c.as_slice.result.now ≡ Ok e → IsFit old.setup (state_of old) e × IsPlain e → ⊥))
+    (λ place. (place ≡ c.loop-bytes.at) × ((e : Entry) → entry_of c.as_slice.result.now ≡ Ok e → IsFit old.setup (state_of old) e → ⊥))
     (IsUnfit s (state_of c.args.memory.now).image c.args.entries.now)
     (λ place is. is_unfit c.args.entries.now c.loop-bytes.bytes-index x below c.bytes-item.is s (state_of c.args.memory.now).image (state_of old) place inv.made (is.0 ∙ inv.there)
-    (λ e read fit. is.1 e (ap entry_of same ∙ read) (subst (λ (t : Setup). IsFit t (state_of old) e) (sym inv.setup) fit.0, fit.1)))
+    (λ e read fit. is.1 e (ap entry_of same ∙ read) (subst (λ (t : Setup). IsFit t (state_of old) e) (sym inv.setup) fit)))
     c.in_err-take.ensures.refused)
 
 pub loop-bytes-preserved : goal.loop-bytes-preserved

@@ -1,7 +1,7 @@
 use Rattle.std.proofs.Common.{◌≡◌, ◌+◌, ◌^◌, take, length}
 use Rattle.disk_model.specs.LogBytes.{log_bytes}
 use Rattle.mem_node.specs.Disk.{Makes}
-use Rattle.mem_node.specs.Memory.{state_of}
+use Rattle.mem_rules.specs.Memory.{state_of}
 use Rattle.mem_node.proofs.replay.replay.Given as goal
 
 -- the entries so far made what is there, and the next gate is behind them

@@ -9,5 +9,5 @@ returns c =
     let one = c.in_ok-push.ensures.ok ∙ ap (λ (items : List PlacedItem). items ++ record { place = 0; item = c.args.item } ∷ []) c.new-items.ensures in (
       asked_is_fit lone (record { coord = 0; boot = 1; seq = c.args.seq }) c.in_ok-from_slice.field-0 c.push.new.self refl refl c.in_ok-from_slice.ensures
           (subst AreFitItems (sym one) c.requires),
-      c.in_ok-from_slice.ensures,
+      tt,
     )

@@ -4,7 +4,7 @@ use Rattle.disk_model.specs.Crash.{History}
 use Rattle.disk_model.specs.Health.{Fell, Passed, Speaks}
 use Rattle.disk_model.proofs.HealthLemmas.{fell_behind, passed_both, speaks_passed}
 use Rattle.mem_node.specs.declared.mem_node.MemNode.{MemNode}
-use Rattle.mem_node.specs.Fit.{size_of}
+use Rattle.mem_rules.specs.Fit.{size_of}
 use Rattle.mem_node.specs.Header.{IsFormatted}
 use Rattle.mem_node.specs.Disk.{IsBroken, IsBrokenLog}
 use Rattle.mem_node.specs.Node.{IsOn}

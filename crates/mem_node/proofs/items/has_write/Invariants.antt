@@ -1,7 +1,0 @@
-use Rattle.std.proofs.Common.{◌≡◌, drop}
-use Rattle.mem_node.specs.Items.{any_write}
-use Rattle.mem_node.proofs.items.has_write.Given as goal
-
--- what is told of the items that are left is told of all
-abbrev pub invariant-loop-placed : goal.invariant-loop-placed
-invariant-loop-placed l = any_write (drop l.placed-index l.items) ≡ any_write l.items

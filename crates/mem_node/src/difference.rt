@@ -1,9 +1,0 @@
-use mini_tx::Bytes;
-
-/// A compare item that differs: its place in the minitransaction, and the bytes that stand where it
-/// compares.
-#[derive(Debug, Drop)]
-pub struct Difference {
-    pub place: u32,
-    pub kept: Bytes,
-}

@@ -1,9 +1,0 @@
-use mini_tx::{TxId, Vote};
-
-/// The greatest identifier of a coordinator that was voted on with an entry or forced to abort, with that
-/// vote.
-#[derive(Debug, Drop)]
-pub struct Floor {
-    pub id: TxId,
-    pub vote: Vote,
-}

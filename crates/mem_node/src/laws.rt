@@ -1,0 +1,12 @@
+//! Laws of the disks of memory nodes.
+ghost use Rattle.mem_node.specs.Laws.{DisksHaveOneState, BrokenDisksHaveNone};
+
+/// A disk stands for one state.
+pub fn disks_have_one_state()
+    ensures { DisksHaveOneState }
+{}
+
+/// A disk whose log is damaged, or has an entry that is unfit, stands for none.
+pub fn broken_disks_have_none()
+    ensures { BrokenDisksHaveNone }
+{}

@@ -1,0 +1,6 @@
+pub mod IdentifierLemmas
+pub mod RecordLemmas
+pub mod ItemLemmas
+pub mod GoodLemmas
+pub mod ReactionLemmas
+pub mod AnswerLemmas

@@ -1,0 +1,9 @@
+pub mod Identifiers
+pub mod Items
+pub mod State
+pub mod Rules
+pub mod Fit
+pub mod Good
+pub mod Records
+pub mod Memory
+pub mod Reactions
