@@ -34,6 +34,3 @@ pub use outcome::Outcome;
 pub use outgoing::{Outbox, Outgoing};
 pub use sfs_base::NoMemory;
 pub use tx_state::TxState;
-
-#[cfg(test)]
-mod tests;
