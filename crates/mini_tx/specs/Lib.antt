@@ -1,3 +1,4 @@
+pub mod Order
 pub mod EntryGrammar
 pub mod EntryReading
 pub mod EntryLemmas

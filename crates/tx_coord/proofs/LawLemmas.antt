@@ -9,13 +9,14 @@ use Rattle.mini_tx.specs.declared.tx_id.TxId.{TxId}
 use Rattle.mini_tx.specs.declared.vote.Vote.{Vote}
 use Rattle.mini_tx.specs.declared.vote.Vote.TheVariants as vote
 use Rattle.mini_tx.specs.Minitransactions.{memory_of}
+use Rattle.mini_tx.specs.Order.{is_same}
 use Rattle.tx_coord.specs.declared.outcome.Outcome.{Outcome}
 use Rattle.tx_coord.specs.declared.outcome.Outcome.TheVariants.{Committed, Refused}
 use Rattle.tx_coord.specs.declared.progress.Progress.{Progress}
 use Rattle.tx_coord.specs.declared.progress.Progress.TheVariants.{Waits, Ends}
 use Rattle.tx_coord.specs.declared.running.Running.{Running}
 use Rattle.tx_coord.specs.State.{Phase, Runs, Ended, State}
-use Rattle.tx_coord.specs.Rules.{after_vote, counted, fits, gathered, has_granted, heard, is_in, is_same, missing, on_vote, participants_of, placed_for, placed_in, quiet, with_grant}
+use Rattle.tx_coord.specs.Rules.{after_vote, counted, fits, gathered, has_granted, heard, is_in, missing, on_vote, participants_of, placed_for, placed_in, quiet, with_grant}
 use Rattle.tx_coord.specs.Laws.{Delivery, after_hearing, vote_in, before, first_vote, IsGrantedVote, IsCommitted, CommittedWhereAllGranted}
 use Rattle.tx_coord.proofs.ParticipantLemmas.{In, contained, contains, none_granted, placed-In}
 use Rattle.tx_coord.proofs.MissingLemmas.{is_in_missing, in_list, list_in, one_more, none_missing, empty_is}

@@ -7,10 +7,11 @@ use Rattle.mini_tx.specs.declared.message.Message.TheVariants as message
 use Rattle.mini_tx.specs.declared.tx_id.TxId.{TxId}
 use Rattle.mini_tx.specs.declared.vote.Vote.{Vote}
 use Rattle.mini_tx.specs.declared.vote.Vote.TheVariants as vote
+use Rattle.mini_tx.specs.Order.{is_same}
 use Rattle.tx_coord.specs.declared.outcome.Outcome.TheVariants.{Committed, Refused}
 use Rattle.tx_coord.specs.declared.running.Running.{Running}
 use Rattle.tx_coord.specs.State.{Phase, Free, Runs, Ended, State}
-use Rattle.tx_coord.specs.Rules.{heard, fits, is_same, participants_of, placed_for}
+use Rattle.tx_coord.specs.Rules.{heard, fits, participants_of, placed_for}
 
 -- what comes from a memory node
 pub record Delivery : Type 0 where

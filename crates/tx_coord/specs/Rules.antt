@@ -10,6 +10,7 @@ use Rattle.mini_tx.specs.declared.tx_id.TxId.{TxId}
 use Rattle.mini_tx.specs.declared.vote.Vote.{Vote}
 use Rattle.mini_tx.specs.declared.vote.Vote.TheVariants as vote
 use Rattle.mini_tx.specs.Minitransactions.{memory_of}
+use Rattle.mini_tx.specs.Order.{is_same}
 use Rattle.tx_coord.specs.declared.outcome.Outcome.{Outcome}
 use Rattle.tx_coord.specs.declared.outcome.Outcome.TheVariants.{Committed, Refused}
 use Rattle.tx_coord.specs.declared.outgoing.Outgoing.{Outgoing}
@@ -28,9 +29,6 @@ pub record Step : Type 0 where
 -- this state, and nothing posted
 abbrev pub quiet : State → Step
 quiet c = record { now = c; posts = [] }
-
-abbrev pub is_same : TxId → TxId → Bool
-is_same a b = (a.coord == b.coord) && ((a.boot == b.boot) && (a.seq == b.seq))
 
 -- ---- participants and their items
 

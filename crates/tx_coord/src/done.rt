@@ -4,7 +4,6 @@ ghost use Rattle.tx_coord.specs.declared.finishing.Finishing.{Finishing as Decid
 
 use crate::decisions::is_through;
 use crate::finishing::Finishing;
-use crate::fit::are_equal;
 use mini_tx::{Numbers, TxId};
 use sfs_base::Seq;
 use std::alloc::Global;
@@ -23,7 +22,7 @@ fn without(waits: Numbers, from: u32) -> Numbers
 fn note(alloc: Global, decided: &mut Finishing, from: u32, id: TxId)
     ensures { decided.new ≡ noted from id decided.old }
 {
-    if are_equal(decided.id, id) {
+    if decided.id.is_same(id) {
         let waits = mem::replace(&mut decided.waits, Seq::new(alloc));
         decided.waits = without(waits, from);
     }

@@ -1,16 +1,9 @@
 ghost use Rattle.std.specs.Prelude.{◌≡◌};
 ghost use Rattle.std.specs.List.{list_any};
-ghost use Rattle.tx_coord.specs.Rules.{compares_at, fits as fits_items, have_lengths, is_compare, is_same, placed_for, read_lengths};
+ghost use Rattle.tx_coord.specs.Rules.{compares_at, fits as fits_items, have_lengths, is_compare, placed_for, read_lengths};
 
 use crate::participants::memory;
-use mini_tx::{Bytes, Item, TxId, Vote};
-
-/// Whether two identifiers are the same.
-pub(crate) fn are_equal(id: TxId, other: TxId) -> bool
-    ensures { result ≡ is_same id other }
-{
-    id.coord == other.coord && id.boot == other.boot && id.seq == other.seq
-}
+use mini_tx::{Bytes, Item, Vote};
 
 /// Whether an item compares.
 fn compares(item: &Item) -> bool

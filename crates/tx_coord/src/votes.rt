@@ -1,7 +1,7 @@
 ghost use Rattle.std.specs.Prelude.{◌≡◌, ◌==◌, length, IfOk};
 ghost use Rattle.tx_coord.specs.Rules.{counted as counted_of, counts as counts_of, granted as granted_of, missing, with_grant as with_counted, is_in};
 
-use crate::fit::{are_equal, fits};
+use crate::fit::fits;
 use crate::gathered::gathered;
 use crate::grant::Grant;
 use crate::outcome::Outcome;
@@ -15,7 +15,7 @@ use std::alloc::Global;
 pub(crate) fn counts(running: &Running, from: u32, id: TxId, vote: &Vote) -> bool
     ensures { result ≡ counts_of running.now from id vote.now }
 {
-    are_equal(running.id, id)
+    running.id.is_same(id)
         && is_missing(running, from)
         && fits(running.mini.items().as_slice(), from, vote)
 }

@@ -1,0 +1,4 @@
+mod ListLemmas
+mod ShownLemmas
+mod DoneLemmas
+mod StepLemmas

@@ -1,0 +1,4 @@
+pub mod MemoryNodes
+pub mod Story
+pub mod Steps
+pub mod Cases
