@@ -26,8 +26,3 @@ pub use laws::{broken_disks_have_none, disks_have_one_state};
 pub use mem_node::MemNode;
 pub use mem_rules::Setup;
 pub use node_fault::NodeFault;
-
-#[cfg(test)]
-mod fixture;
-#[cfg(test)]
-mod tests;

@@ -1,0 +1,7 @@
+//! The tests of a memory node. They stand in a crate above it, so that it is not proved once more for its tests.
+#![tactic(auto)]
+
+#[cfg(test)]
+mod fixture;
+#[cfg(test)]
+mod nodes;
