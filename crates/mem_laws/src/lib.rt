@@ -15,6 +15,5 @@ pub use laws::{
     loaded_clusters_show, loaded_nodes_show, minis_are_told, minis_match_alike, minis_read_alike,
     minis_write_alike, opened_nodes_show, others_leave_it, participants_are_the_tables,
     reactions_are_the_machines, reads_are_the_machines, releases_are_the_machines,
-    rules_are_the_machines,
-    states_are_the_machines, valid_minis_fit, votes_are_the_machines,
+    rules_are_the_machines, states_are_the_machines, valid_minis_fit, votes_are_the_machines,
 };
