@@ -1,0 +1,9 @@
+pub mod MarkLemmas
+pub mod WalkLemmas
+pub mod PutLemmas
+pub mod ReadLemmas
+pub mod StepLemmas
+pub mod LinkLemmas
+pub mod FileLemmas
+pub mod OwnerLemmas
+pub mod ShownLemmas
