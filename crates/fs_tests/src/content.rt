@@ -42,24 +42,23 @@ fn a_name_takes_the_lowest_empty_slot(rt: HostRuntime) -> Result<(), Fail> {
     Ok(())
 }
 
+// An entry of a listing.
+fn listed(alloc: Global, fileid: u32, name: &[u8], cookie: u32) -> Result<DirEntry, NoMemory> {
+    Ok(DirEntry {
+        fileid,
+        name: Bytes::from_slice(alloc, name)?,
+        cookie,
+    })
+}
+
 #[test]
 fn names_are_listed_behind_themselves_and_their_parent(rt: HostRuntime) -> Result<(), Fail> {
     let alloc = rt.alloc();
-    let listed: [(u32, &[u8], u32); 4] = [
-        (5, b".", 1),
-        (1, b"..", 2),
-        (8, b"ab", 3),
-        (9, b"abcde", 5),
-    ];
     let mut entries = DirEntries::new(alloc);
-    for (fileid, name, cookie) in listed {
-        let name = Bytes::from_slice(alloc, name)?;
-        entries.push(DirEntry {
-            fileid,
-            name,
-            cookie,
-        })?;
-    }
+    entries.push(listed(alloc, 5, b".", 1)?)?;
+    entries.push(listed(alloc, 1, b"..", 2)?)?;
+    entries.push(listed(alloc, 8, b"ab", 3)?)?;
+    entries.push(listed(alloc, 9, b"abcde", 5)?)?;
     let answer = list_names(alloc, 5, 1, &two_names(alloc)?, 0, 4_096)?;
     assert_eq!(rt; answer, Answer::Names { entries, eof: true });
     Ok(())
