@@ -1,0 +1,13 @@
+//! Laws of the story of a cluster.
+ghost use Rattle.story_laws.specs.Growth.{StepsOnlyAdd};
+ghost use Rattle.story_laws.specs.Identifiers.{IdentifiersAreBegunOnce};
+
+/// Each step only adds to what was begun, logged, posted, committed, cast and refused, and makes one point at most.
+pub fn steps_only_add()
+    ensures { StepsOnlyAdd }
+{}
+
+/// No identifier is begun twice, whatever crashes and starts, where each start of a node has a new boot number.
+pub fn identifiers_are_begun_once()
+    ensures { IdentifiersAreBegunOnce }
+{}
