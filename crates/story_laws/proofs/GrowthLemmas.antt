@@ -1,5 +1,5 @@
 -- Each step only adds to a story.
-use Rattle.std.proofs.Common.{◌≡◌, ◌⊎◌, inl, inr, ℕ, zero, suc, ◌+◌, Bool, true, false, ◌&&◌, List, [], ◌∷◌, ◌++◌, length, map, Option, Some, None, refl, sym, ap, subst, ◌∙◌, append_assoc, slice_get, slice_set, slice_index_or, if◌then◌else◌}
+use Rattle.std.proofs.Common.{◌≡◌, ◌⊎◌, inl, inr, ℕ, zero, suc, ◌+◌, Bool, true, false, ◌&&◌, ◌||◌, List, [], ◌∷◌, ◌++◌, length, map, Option, Some, None, refl, sym, ap, subst, ◌∙◌, append_assoc, slice_get, slice_set, slice_index_or, if◌then◌else◌}
 use Rattle.std.proofs.lemmas.List.{append-nil}
 use Rattle.mini_tx.specs.declared.actor.Actor.{Actor}
 use Rattle.mini_tx.specs.declared.actor.Actor.TheVariants.{Node, Memory, Manager}
@@ -11,10 +11,14 @@ use Rattle.mini_tx.specs.declared.tx_id.TxId.{TxId}
 use Rattle.tx_coord.specs.State as coord
 use Rattle.tx_coord.specs.Rules as rules
 use Rattle.story_rules.specs.MemoryNodes.{MemoryNode, Reaction, reaction, with_state}
-use Rattle.story_rules.specs.Story.{Begun, Seat, Site, Up, Down, Story, Entered, Sent, Cast}
+use Rattle.story_rules.specs.Story.{Begun, Seat, Site, Up, Down, Story, Entered, Sent, Cast, opened_story}
 use Rattle.story_rules.specs.Steps as steps
 use Rattle.story_rules.specs.Steps.{How, Lost, Handled, Stopped, WentDown, WasFull, log_of, with_entry, with_grant, with_answer, grant_of}
-use Rattle.story_laws.specs.Growth.{Adds, AddsOne, Grows, StepsOnlyAdd}
+use Rattle.tx_rules.specs.Mini.{In}
+use Rattle.tx_rules.proofs.FaithfulLemmas.{in_either}
+use Rattle.mem_rules.specs.State.{State}
+use Rattle.mini_tx.specs.Order.{is_same}
+use Rattle.story_laws.specs.Growth.{Adds, AddsPoint, IsGrantedByAll, AreGranted, Grows, StepsOnlyAdd, ChangesAreGranted}
 
 -- ---- lists
 
@@ -68,7 +72,7 @@ joined a b c first second = record {
   refused = both a.refused b.refused c.refused first.refused second.refused;
 }
 
-grown : (before now : Story) → Keeps before now → AddsOne before.committed now.committed → Grows before now
+grown : (before now : Story) → Keeps before now → AddsPoint before now → Grows before now
 grown before now keeps point = record {
   opening = keeps.opening;
   begun = keeps.begun;
@@ -81,6 +85,70 @@ grown before now keeps point = record {
 
 quiet : (story : Story) → Grows story story
 quiet story = grown story story (same story) (inl refl)
+
+-- ---- what all have granted
+
+or_true : (a b : Bool) → a ≡ true → (a || b) ≡ true
+or_true true b is = refl
+or_true false b is = absurd cc
+
+or_right : (a b : Bool) → b ≡ true → (a || b) ≡ true
+or_right true b is = refl
+or_right false b is = is
+
+both_true : (a b : Bool) → (a && b) ≡ true → (a ≡ true) × (b ≡ true)
+both_true true b is = (refl, is)
+both_true false b is = absurd cc
+
+true_both : (a b : Bool) → a ≡ true → b ≡ true → (a && b) ≡ true
+true_both true b one other = other
+true_both false b one other = absurd cc
+
+-- more entries grant what these grant
+grants_more : (id : TxId) (xs ys : List Entry) → steps.has_granted id xs ≡ true → steps.has_granted id (xs ++ ys) ≡ true
+grants_more id [] ys is = absurd cc
+grants_more id (x ∷ xs) ys is = go (steps.is_of id (steps.grant_in x)) (grants_more id xs ys) is
+  where
+    go : (b : Bool) → (steps.has_granted id xs ≡ true → steps.has_granted id (xs ++ ys) ≡ true)
+        → (b || steps.has_granted id xs) ≡ true → (b || steps.has_granted id (xs ++ ys)) ≡ true
+    go true more one = refl
+    go false more rest = more rest
+
+grants_stay : (id : TxId) (xs ys : List Entry) → Adds xs ys → steps.has_granted id xs ≡ true → steps.has_granted id ys ≡ true
+grants_stay id xs ys adds is = subst (λ (l : List Entry). steps.has_granted id l ≡ true) (sym adds.1) (grants_more id xs adds.0 is)
+
+all_stay : (before now : Story) (id : TxId) (ms : List ℕ) → ((m : ℕ) → Adds (log_of before m) (log_of now m)) → steps.all_granted before id ms ≡ true → steps.all_granted now id ms ≡ true
+all_stay before now id [] logs is = refl
+all_stay before now id (m ∷ ms) logs is =
+    let parts = both_true (steps.has_granted id (log_of before m)) (steps.all_granted before id ms) is in
+    true_both (steps.has_granted id (log_of now m)) (steps.all_granted now id ms)
+    (grants_stay id (log_of before m) (log_of now m) (logs m) parts.0) (all_stay before now id ms logs parts.1)
+
+-- what has a write item has the same items when more is begun
+items_stay : (begun more : List Begun) (id : TxId) → steps.has_write (steps.items_of begun id) ≡ true → steps.items_of (begun ++ more) id ≡ steps.items_of begun id
+items_stay [] more id is = absurd cc
+items_stay (b ∷ begun) more id is = go (is_same b.id id) (items_stay begun more id) is
+  where
+    go : (t : Bool) → (steps.has_write (steps.items_of begun id) ≡ true → steps.items_of (begun ++ more) id ≡ steps.items_of begun id) → steps.has_write (if t then b.items else steps.items_of begun id) ≡ true
+        → (if t then b.items else steps.items_of (begun ++ more) id) ≡ (if t then b.items else steps.items_of begun id)
+    go true same_ one = refl
+    go false same_ rest = same_ rest
+
+by_all_stays : (before now : Story) (id : TxId) → ((m : ℕ) → Adds (log_of before m) (log_of now m)) → Adds before.begun now.begun → IsGrantedByAll before id → IsGrantedByAll now id
+by_all_stays before now id logs begun is =
+    let items : steps.items_of now.begun id ≡ steps.items_of before.begun id =
+    ap (λ (bs : List Begun). steps.items_of bs id) begun.1 ∙ items_stay before.begun begun.0 id is.written in
+    record {
+      written = ap steps.has_write items ∙ is.written;
+      granted = ap (λ (xs : List Item). steps.all_granted now id (rules.participants_of xs)) items
+          ∙ all_stay before now id (rules.participants_of (steps.items_of before.begun id)) logs is.granted;
+    }
+
+-- a point that was added stays one where logs and beginnings stay
+point_stays : (before middle now : Story) → now.committed ≡ middle.committed → ((m : ℕ) → Adds (log_of middle m) (log_of now m)) → Adds middle.begun now.begun
+    → AddsPoint before middle → AddsPoint before now
+point_stays before middle now same logs begun (inl none_) = inl (same ∙ none_)
+point_stays before middle now same logs begun (inr point) = inr (point.0, same ∙ point.1, by_all_stays middle now point.0 logs begun point.2)
 
 -- ---- a memory node's step
 
@@ -124,13 +192,21 @@ answer_keeps story m sender (Some x) = record {
     cast true = more story.casts new
     cast false = none story.casts
 
-grant_points : (story : Story) (m : ℕ) (g : Option TxId) → AddsOne story.committed (with_grant story m g).committed
+grant_points : (story : Story) (m : ℕ) (g : Option TxId) → AddsPoint story (with_grant story m g)
 grant_points story m None = inl refl
-grant_points story m (Some id) = go (steps.has_write (steps.items_of story.begun id) && steps.all_granted story id (rules.participants_of (steps.items_of story.begun id)))
+grant_points story m (Some id) = go (steps.has_write items && steps.all_granted story id (rules.participants_of items)) refl
   where
-    go : (b : Bool) → AddsOne story.committed (if b then story.committed ++ id ∷ [] else story.committed)
-    go true = inr (id, refl)
-    go false = inl refl
+    items : List Item
+    items = steps.items_of story.begun id
+
+    go : (b : Bool) → (steps.has_write items && steps.all_granted story id (rules.participants_of items)) ≡ b
+        → ((if b then story.committed ++ id ∷ [] else story.committed) ≡ story.committed)
+        ⊎ ((new : TxId) × ((if b then story.committed ++ id ∷ [] else story.committed) ≡ story.committed ++ new ∷ []) × IsGrantedByAll (steps.granted story m id) new)
+    go false is = inl refl
+    go true is =
+        let parts = both_true (steps.has_write items) (steps.all_granted story id (rules.participants_of items)) is in
+        let here : IsGrantedByAll story id = record { written = parts.0; granted = parts.1 } in
+        inr (id, refl, by_all_stays story (steps.granted story m id) id (λ n. none (log_of story n)) (none story.begun) here)
 
 entry_points : (story : Story) (m : ℕ) (e : Option Entry) → (with_entry story m e).committed ≡ story.committed
 entry_points story m None = refl
@@ -145,10 +221,14 @@ counted_grows story m sender e answer =
     let one = with_entry story m e in
     let two = with_grant one m (grant_of e) in
     let three = with_answer two m sender answer in
+    let last = answer_keeps two m sender answer in
     grown story three
-    (joined story two three (joined story one two (entry_keeps story m e) (grant_keeps one m (grant_of e))) (answer_keeps two m sender answer))
-    (subst (λ (cs : List TxId). AddsOne cs three.committed) (entry_points story m e)
-    (subst (λ (cs : List TxId). AddsOne one.committed cs) (sym (answer_points two m sender answer)) (grant_points one m (grant_of e))))
+    (joined story two three (joined story one two (entry_keeps story m e) (grant_keeps one m (grant_of e))) last)
+    (from_story (point_stays one two three (answer_points two m sender answer) last.logs last.begun (grant_points one m (grant_of e))))
+  where
+    from_story : AddsPoint (with_entry story m e) (steps.counted story m sender e answer) → AddsPoint story (steps.counted story m sender e answer)
+    from_story (inl none_) = inl (none_ ∙ entry_points story m e)
+    from_story (inr point) = inr (point.0, point.1 ∙ ap (λ (ids : List TxId). ids ++ point.0 ∷ []) (entry_points story m e), point.2)
 
 -- the sites are no part of what grows
 moved : (before now : Story) (m : ℕ) (site : Site) → Grows before now → Grows before (steps.with_site now m site)
@@ -157,7 +237,7 @@ moved before now m site grows = record {
   begun = grows.begun;
   logs = grows.logs;
   posted = grows.posted;
-  committed = grows.committed;
+  committed = point_stays before now (steps.with_site now m site) refl (λ n. none (log_of now n)) (none now.begun) grows.committed;
   casts = grows.casts;
   refused = grows.refused;
 }
@@ -301,3 +381,20 @@ steps_only_add = record {
   node_started = λ story n boot. actor_set story n boot (Some (coord.started n boot));
   memory_started = λ story m found. site_grows story m found (slice_get story.sites m);
 }
+
+pub changes_are_granted : ChangesAreGranted
+changes_are_granted = record {
+  opened = λ states boots id is. absurd is;
+  stays = λ before now grows granted id is. by_point before now grows granted id is grows.committed;
+}
+  where
+    old : (before now : Story) → Grows before now → AreGranted before → (id : TxId) → In id before.committed → IsGrantedByAll now id
+    old before now grows granted id is = by_all_stays before now id grows.logs grows.begun (granted id is)
+
+    by_point : (before now : Story) → Grows before now → AreGranted before → (id : TxId) → In id now.committed → AddsPoint before now → IsGrantedByAll now id
+    by_point before now grows granted id is (inl same) = old before now grows granted id (subst (λ (ids : List TxId). In id ids) same is)
+    by_point before now grows granted id is (inr point) =
+        elim (in_either id before.committed (point.0 ∷ []) (subst (λ (ids : List TxId). In id ids) point.1 is)) [
+          | inl there ↦ old before now grows granted id there
+          | inr last ↦ elim last [ inl one ↦ subst (λ (x : TxId). IsGrantedByAll now x) (sym one) point.2 | inr nothing ↦ absurd nothing ]
+        ]

@@ -6,4 +6,4 @@
 
 mod laws;
 
-pub use laws::{identifiers_are_begun_once, steps_only_add};
+pub use laws::{changes_are_granted, identifiers_are_begun_once, steps_only_add};
