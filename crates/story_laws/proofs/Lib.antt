@@ -1,2 +1,3 @@
 mod GrowthLemmas
 mod IdentifierLemmas
+mod CastLemmas

@@ -1,4 +1,5 @@
 //! Laws of the story of a cluster.
+ghost use Rattle.story_laws.specs.Casts.{CastsAreTheEntries};
 ghost use Rattle.story_laws.specs.Growth.{StepsOnlyAdd, ChangesAreGranted};
 ghost use Rattle.story_laws.specs.Identifiers.{IdentifiersAreBegunOnce};
 
@@ -15,4 +16,9 @@ pub fn identifiers_are_begun_once()
 /// Each change in the history has a Granted entry of each of its participants, for ever.
 pub fn changes_are_granted()
     ensures { ChangesAreGranted }
+{}
+
+/// Each memory node has cast the votes of its Granted entries, in their order and each once.
+pub fn casts_are_the_entries()
+    ensures { CastsAreTheEntries }
 {}

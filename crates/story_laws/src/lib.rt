@@ -6,4 +6,6 @@
 
 mod laws;
 
-pub use laws::{changes_are_granted, identifiers_are_begun_once, steps_only_add};
+pub use laws::{
+    casts_are_the_entries, changes_are_granted, identifiers_are_begun_once, steps_only_add,
+};
