@@ -1,9 +1,9 @@
 ghost use Rattle.mem_rules.specs.Fit.{IsSetup};
 
 use crate::fixture::{
-    Ask, SETUP, blank, count_entries, granted, id_of, loaded, prepare, tell, voted,
+    Ask, SETUP, blank, formatted, granted, id_of, loaded, prepare, tell, voted,
 };
-use disk_model::{Choice, Disk, PlanDisk, Stop};
+use disk_model::{PlanDisk, Stop};
 use mem_node::{MemNode, NodeFault, Setup};
 use mini_tx::{Geometry4, KeptId, KeptIds, Message, NoMemory, Numbers, Reads, TxId, Vote};
 use std::alloc::Global;
@@ -28,13 +28,6 @@ fn refusal(alloc: Global, disk: PlanDisk, setup: Setup) -> Option<NodeFault>
         Ok(_node) => None,
         Err((fault, _disk)) => Some(fault),
     }
-}
-
-/// A formatted disk.
-fn formatted(alloc: Global) -> Result<PlanDisk, NodeFault> {
-    let mut disk = blank(alloc);
-    MemNode::format(alloc, &mut disk, SETUP)?;
-    Ok(disk)
 }
 
 /// That it keeps these records, each of both memory nodes.
@@ -112,7 +105,7 @@ fn a_disk_is_loaded_by_its_memory_node_alone(rt: HostRuntime) -> Result<(), Fail
 }
 
 #[test]
-fn a_vote_that_was_stopped_leaves_its_entry_or_none(rt: HostRuntime) -> Result<(), Fail> {
+fn a_memory_node_whose_disk_failed_answers_that(rt: HostRuntime) -> Result<(), Fail> {
     let alloc = rt.alloc();
     let mut node = loaded(alloc, Stop::new(formatted(alloc)?))?;
     assert!(rt; !node.stopped());
@@ -123,11 +116,6 @@ fn a_vote_that_was_stopped_leaves_its_entry_or_none(rt: HostRuntime) -> Result<(
     assert!(rt; !node.starved());
     let again = prepare(alloc, &mut node, id_of(0, 1), Ask::ReadMark).err();
     assert_eq!(rt; again, Some(NodeFault::Down));
-    // The gate was opened, and is not safe yet.
-    let mut disk = node.stop();
-    assert_eq!(rt; disk.restart(Choice::New), Ok(()));
-    let (count, _disk) = count_entries(alloc, disk)?;
-    assert_eq!(rt; count, 1);
     Ok(())
 }
 
