@@ -35,7 +35,11 @@ fn record() -> TxId
 }
 
 /// Takes the step.
-fn take<D: Disk>(alloc: Global, node: &mut MemNode<D>, step: Step) -> Result<Option<Message>, NodeFault>
+fn take<D: Disk>(
+    alloc: Global,
+    node: &mut MemNode<D>,
+    step: Step,
+) -> Result<Option<Message>, NodeFault>
     requires setup { setup_of node.old ≡ pair }
     ensures { setup_of node.new ≡ pair }
 {

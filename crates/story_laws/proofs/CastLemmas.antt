@@ -1,12 +1,11 @@
 -- The votes that are cast with an entry are the Granted entries.
-use Rattle.std.proofs.Common.{◌≡◌, ◌<◌, ◌≤◌, ◌==◌, ◌⊎◌, inl, inr, ℕ, zero, suc, ◌+◌, Bool, true, false, ◌&&◌, List, [], ◌∷◌, ◌++◌, length, map, replicate, Option, Some, None, refl, sym, ap, subst, ◌∙◌, arith, slice_get, slice_set, slice_index_or, if◌then◌else◌}
+use Rattle.std.proofs.Common.{◌≡◌, ◌<◌, ◌≤◌, ◌==◌, inl, inr, ℕ, zero, suc, ◌+◌, Bool, true, false, ◌&&◌, List, [], ◌∷◌, ◌++◌, length, map, replicate, Option, Some, None, refl, sym, ap, subst, ◌∙◌, arith, slice_get, slice_set, slice_index_or, if◌then◌else◌}
 use Rattle.std.proofs.lemmas.Bool.{cases_eq, eq-eqb, ne_eqb}
 use Rattle.std.proofs.lemmas.List.{append-nil, length-append, length-replicate}
 use Rattle.std.proofs.lemmas.Option.{slice_get_within}
 use Rattle.mini_tx.specs.declared.actor.Actor.{Actor}
 use Rattle.mini_tx.specs.declared.actor.Actor.TheVariants.{Node, Memory, Manager}
 use Rattle.mini_tx.specs.declared.entry.Entry.{Entry}
-use Rattle.mini_tx.specs.declared.item.Item.{Item}
 use Rattle.mini_tx.specs.declared.message.Message.{Message}
 use Rattle.mini_tx.specs.declared.posted.Posted.{Posted}
 use Rattle.mini_tx.specs.declared.tx_id.TxId.{TxId}
@@ -16,7 +15,7 @@ use Rattle.tx_rules.specs.Mini.{In}
 use Rattle.tx_rules.proofs.FaithfulLemmas.{in_either}
 use Rattle.mem_rules.specs.State.{State}
 use Rattle.story_rules.specs.MemoryNodes.{MemoryNode, Reaction, reaction, with_state}
-use Rattle.story_rules.specs.Story.{Seat, Site, Up, Down, Story, Cast, Entered, Sent, opened_story}
+use Rattle.story_rules.specs.Story.{Seat, Site, Up, Down, Story, Cast, Entered, Sent}
 use Rattle.story_rules.specs.Steps as steps
 use Rattle.story_rules.specs.Steps.{How, Lost, Handled, Stopped, WentDown, WasFull, grant_in, grant_of, log_of, with_entry, with_grant, with_answer}
 use Rattle.story_laws.specs.Casts.{before_others, grants_in, casts_at, moment_of, AreCast, CastsAreTheEntries}

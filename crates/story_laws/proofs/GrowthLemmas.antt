@@ -11,12 +11,11 @@ use Rattle.mini_tx.specs.declared.tx_id.TxId.{TxId}
 use Rattle.tx_coord.specs.State as coord
 use Rattle.tx_coord.specs.Rules as rules
 use Rattle.story_rules.specs.MemoryNodes.{MemoryNode, Reaction, reaction, with_state}
-use Rattle.story_rules.specs.Story.{Begun, Seat, Site, Up, Down, Story, Entered, Sent, Cast, opened_story}
+use Rattle.story_rules.specs.Story.{Begun, Seat, Site, Up, Down, Story, Entered, Sent, Cast}
 use Rattle.story_rules.specs.Steps as steps
 use Rattle.story_rules.specs.Steps.{How, Lost, Handled, Stopped, WentDown, WasFull, log_of, with_entry, with_grant, with_answer, grant_of}
 use Rattle.tx_rules.specs.Mini.{In}
 use Rattle.tx_rules.proofs.FaithfulLemmas.{in_either}
-use Rattle.mem_rules.specs.State.{State}
 use Rattle.mini_tx.specs.Order.{is_same}
 use Rattle.story_laws.specs.Growth.{Adds, AddsPoint, IsGrantedByAll, AreGranted, Grows, StepsOnlyAdd, ChangesAreGranted}
 

@@ -1,9 +1,7 @@
 -- That each step only adds to a story.
 use Rattle.std.specs.Prelude.{◌≡◌, ◌⊎◌, ℕ, Bool, true, List, [], ◌∷◌, ◌++◌}
 use Rattle.mini_tx.specs.declared.actor.Actor.{Actor}
-use Rattle.mini_tx.specs.declared.entry.Entry.{Entry}
 use Rattle.mini_tx.specs.declared.item.Item.{Item}
-use Rattle.mini_tx.specs.declared.posted.Posted.{Posted}
 use Rattle.mini_tx.specs.declared.tx_id.TxId.{TxId}
 use Rattle.mem_rules.specs.State.{State}
 use Rattle.tx_coord.specs.Rules.{participants_of}
