@@ -29,4 +29,5 @@ pub use laws::{damaged_logs_have_none, disks_have_one_boot, logs_have_one_list};
 pub use layout::MAX_LOG_BYTES;
 pub use log::Log;
 pub use log_fault::LogFault;
+pub use side::Side;
 pub use through::write_through;

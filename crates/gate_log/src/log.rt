@@ -70,6 +70,13 @@ impl<D: Disk> Log<D> {
         }
     }
 
+    /// How far its closed gate lies from its start, in bytes. It takes no memory.
+    pub fn len(&self) -> u64
+        ensures { result ≡ end_of self.now }
+    {
+        self.extent.end
+    }
+
     /// The disk. It touches no byte, and takes no memory.
     pub fn into_disk(self) -> D
         ensures { result ≡ disk_of self }

@@ -1,9 +1,10 @@
 ghost use Rattle.std.specs.Prelude.{◌≡◌};
 ghost use Rattle.gate_log.specs.Boot.{side_of, other_side, place_of};
 
-/// Which of the two places of a boot number is meant.
+/// Which of two places a selector names. The next value is written to the other one before the selector names
+/// that.
 #[derive(Clone, Copy, Debug, PartialEq, Eq)]
-pub(crate) enum Side {
+pub enum Side {
     /// The one that a selector names whose lowest bit is 0.
     First,
     /// The one that a selector names whose lowest bit is 1.
@@ -12,7 +13,7 @@ pub(crate) enum Side {
 
 impl Side {
     /// The side that a selector names.
-    pub(crate) fn of(selector: u8) -> Side
+    pub fn of(selector: u8) -> Side
         ensures { result ≡ side_of selector }
     {
         if selector % 2 == 0 {

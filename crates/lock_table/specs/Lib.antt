@@ -1,3 +1,4 @@
 pub mod Order
-pub mod Held
-pub mod Refusal
+pub mod Spans
+pub mod Locked
+pub mod Table

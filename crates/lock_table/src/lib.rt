@@ -1,20 +1,21 @@
-//! The table of the ranges that minitransactions hold on a memory node.
+//! The index of the ranges that minitransactions lock on a memory node.
 //!
-//! [`Locks`] is a finite map from identifiers to the ranges that they hold. All locks exclude each other:
-//! an identifier gets ranges only where none of them overlaps one that another holds, and a call that is
-//! refused changes nothing. Nobody waits here: the refusal names the least holder that is in the way, and
-//! what follows from it is the caller's to decide. A caller that asks for ranges does so once for all of
-//! them, and releases an identifier when its minitransaction is decided.
+//! [`Locks`] knows at each place which identifier locks it. The locks lie one behind another, so those that
+//! meet a range are found by bisection, and no call walks over the others. Two identifiers never lock the same
+//! place: a caller locks ranges for an identifier only where no other locks a place of them, after it took the
+//! memory for them ([`Locks::reserve`]).
 #![tactic(auto)]
 
+mod calls;
 mod lock;
-mod lock_fault;
 mod locks;
 mod order;
-mod overlap;
+mod span;
+mod taken;
+mod window;
 
 pub use lock::Lock;
-pub use lock_fault::LockFault;
 pub use locks::Locks;
 pub use mini_tx::Range;
-pub use overlap::overlaps;
+pub use order::{are_equal, is_before};
+pub use span::Span;

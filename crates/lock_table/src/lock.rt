@@ -1,8 +1,9 @@
-use mini_tx::{Range, TxId};
+use crate::span::Span;
+use mini_tx::TxId;
 
-/// A range that an identifier holds.
+/// Places that an identifier locks.
 #[derive(Clone, Copy, Debug, PartialEq, Eq)]
 pub struct Lock {
     pub holder: TxId,
-    pub range: Range,
+    pub span: Span,
 }

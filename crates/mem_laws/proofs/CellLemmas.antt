@@ -6,10 +6,10 @@ use Rattle.std.proofs.lemmas.Bool.{ltb-true, lt-ltb, eqb-true, eq-eqb, or_cases,
 use Rattle.mini_tx.specs.declared.range.Range.{Range}
 use Rattle.mini_tx.specs.declared.tx_id.TxId.{TxId}
 use Rattle.mini_tx.specs.Laws.{IsTypedId}
-use Rattle.lock_table.specs.Held.{overlap}
+use Rattle.lock_table.specs.Spans.{overlap}
 use Rattle.mem_rules.specs.Identifiers.{precedes, is_same}
 use Rattle.mem_rules.specs.Rules.{meet}
-use Rattle.mem_rules.proofs.IdentifierLemmas.{before_of, of_before}
+use Rattle.lock_table.proofs.OrderLemmas.{before_of, of_before}
 use Rattle.tx_rules.specs.Mini.{In}
 use Rattle.tx_rules.proofs.FaithfulLemmas.{in_front, in_back, in_either}
 use Rattle.tx_rules.specs.Lists as tests

@@ -1,16 +1,22 @@
 -- A disk stands for one state, and a broken one for none.
-use Rattle.std.proofs.Common.{◌≡◌, ◌+◌, ◌^◌, ℕ, List, [], ◌∷◌, ◌++◌, map, length, get_or, Result, Ok, inl, inr, refl, sym, ap, subst, ◌∙◌, arith}
+use Rattle.std.proofs.Common.{◌≡◌, ℕ, List, [], ◌∷◌, ◌++◌, map, length, Some, None, Result, Ok, inl, inr, refl, sym, ap, subst, ◌∙◌, arith}
+use Rattle.std.proofs.lemmas.List.{append-nil}
 use Rattle.std.proofs.lemmas.Grind.{same_number_lists}
 use Rattle.disk_model.specs.Crash.{Content, Holds}
-use Rattle.disk_model.specs.LogBytes as log
+use Rattle.gate_log.specs.declared.side.Side.{Side}
 use Rattle.gate_log.proofs.LawLemmas.{logs_one, logs_damaged}
 use Rattle.mini_tx.specs.declared.entry.Entry.{Entry}
+use Rattle.mini_tx.specs.EntryGrammar.{entry_spelling}
 use Rattle.mini_tx.specs.EntryReading.{entry_of}
 use Rattle.mem_rules.specs.declared.setup.Setup.{Setup}
 use Rattle.mem_rules.specs.Fit.{IsFit, size_of}
 use Rattle.mem_rules.specs.State.{State, opened, after_entry, after}
-use Rattle.mem_node.specs.Disk.{AreFit, Makes, Has, StandsFor, IsUnfit, IsBrokenLog}
-use Rattle.mem_node.specs.Laws.{DisksHaveOneState, BrokenDisksHaveNone}
+use Rattle.mem_rules.proofs.ItemLemmas.{read_again}
+use Rattle.mem_rules.proofs.ReactionLemmas.{entries_typed}
+use Rattle.mem_node.proofs.DiskLemmas.{makes_more}
+use Rattle.mem_node.specs.Disk.{AreFit, Makes, Has, IsUnfit, IsBrokenLog}
+use Rattle.node_disk.specs.Half.{half_of, image_at, log_at}
+use Rattle.mem_node.specs.Laws.{DisksHaveOneState, BrokenDisksHaveNone, CrashImagesStandForStates}
 
 -- ---- entries that were read
 
@@ -38,14 +44,14 @@ one_made : (s : Setup) (image : List ℕ) (bytes : List (List ℕ)) (a b : State
 one_made s image bytes a b one other =
     one.made ∙ ap (after (opened s.geometry.nodes image)) (same_entries one.entries other.entries (sym one.read ∙ other.read)) ∙ sym other.made
 
-one_image : (s : Setup) (content : Content) (a b : List ℕ) → length a ≡ size_of s → length b ≡ size_of s → Holds content 4096 a → Holds content 4096 b → a ≡ b
-one_image s content a b long also held too =
+one_image : (s : Setup) (content : Content) (at : ℕ) (a b : List ℕ) → length a ≡ size_of s → length b ≡ size_of s → Holds content at a → Holds content at b → a ≡ b
+one_image s content at a b long also held too =
     same_number_lists a b (long ∙ sym also) (λ k below. sym (held.each k below) ∙ too.each k (let size = long ∙ sym also in omega (arith, below, size)))
 
 pub one_state : DisksHaveOneState
 one_state s content state other a b =
-    let image : a.image ≡ b.image = one_image s content a.image b.image a.has.sized b.has.sized a.has.stored b.has.stored in
-    let bytes : a.bytes ≡ b.bytes = logs_one content (2 ^ 32) a.bytes b.bytes a.has.log b.has.log in
+    let image : a.image ≡ b.image = one_image s content (image_at s (half_of content)) a.image b.image a.has.sized b.has.sized a.has.stored b.has.stored in
+    let bytes : a.bytes ≡ b.bytes = logs_one content (log_at (half_of content)) a.bytes b.bytes a.has.log b.has.log in
     one_made s b.image b.bytes state other
     (subst (λ (x : List (List ℕ)). Makes s b.image x state) bytes (subst (λ (x : List ℕ). Makes s x a.bytes state) image a.makes)) b.makes
 
@@ -77,8 +83,8 @@ split_at s start (x ∷ entries) (f ∷ front) bad rest e fit =
       fit = more.fit;
     }
 
-never_unfit : (s : Setup) (image : List ℕ) (bytes : List (List ℕ)) (at : ℕ) (state : State) → IsUnfit s image bytes at → Makes s image bytes state → ⊥
-never_unfit s image bytes at state unfit makes =
+never_unfit : (s : Setup) (base : ℕ) (image : List ℕ) (bytes : List (List ℕ)) (at : ℕ) (state : State) → IsUnfit s base image bytes at → Makes s image bytes state → ⊥
+never_unfit s base image bytes at state unfit makes =
     let start = opened s.geometry.nodes image in
     let parts = split_at s start makes.entries unfit.front unfit.bad unfit.rest (ap (λ (xs : List (List ℕ)). map entry_of xs) (sym unfit.split) ∙ makes.read) makes.fit in
     let same : parts.before ≡ unfit.before.entries = same_entries parts.before unfit.before.entries (sym parts.read ∙ unfit.before.read) in
@@ -88,10 +94,30 @@ never_unfit s image bytes at state unfit makes =
 pub broken_none : BrokenDisksHaveNone
 broken_none s content at state (formatted, (image, sized, stored, broken)) stands = go broken
   where
-    go : IsBrokenLog s content image at → ⊥
-    go (inl damaged) = logs_damaged content (2 ^ 32) at stands.bytes damaged stands.has.log
+    half : Side
+    half = half_of content
+
+    go : IsBrokenLog s content half image at → ⊥
+    go (inl damaged) = logs_damaged content (log_at half) at stands.bytes damaged stands.has.log
     go (inr (bytes, held, unfit)) =
-        let same : image ≡ stands.image = one_image s content image stands.image sized stands.has.sized stored stands.has.stored in
-        let alike : bytes ≡ stands.bytes = logs_one content (2 ^ 32) bytes stands.bytes held stands.has.log in
-        never_unfit s stands.image stands.bytes at state
-        (subst (λ (xs : List (List ℕ)). IsUnfit s stands.image xs at) alike (subst (λ (xs : List ℕ). IsUnfit s xs bytes at) same unfit)) stands.makes
+        let same : image ≡ stands.image = one_image s content (image_at s half) image stands.image sized stands.has.sized stored stands.has.stored in
+        let alike : bytes ≡ stands.bytes = logs_one content (log_at half) bytes stands.bytes held stands.has.log in
+        never_unfit s (log_at half) stands.image stands.bytes at state
+        (subst (λ (xs : List (List ℕ)). IsUnfit s (log_at half) stands.image xs at) alike (subst (λ (xs : List ℕ). IsUnfit s (log_at half) xs bytes at) same unfit)) stands.makes
+
+-- ---- while an entry is appended
+
+pub crash_states : CrashImagesStandForStates
+crash_states s image bytes state e content setup makes fit typed (inl has) = inl (record { image = image; bytes = bytes; has = has; makes = makes })
+crash_states s image bytes state None content setup makes fit typed (inr has) = inr (record {
+  image = image;
+  bytes = bytes;
+  has = subst (λ (bs : List (List ℕ)). Has s content image bs) (append-nil bytes) has;
+  makes = makes;
+})
+crash_states s image bytes state (Some e) content setup makes fit typed (inr has) = inr (record {
+  image = image;
+  bytes = bytes ++ entry_spelling e ∷ [];
+  has = has;
+  makes = makes_more s image bytes state (entry_spelling e) e makes (read_again e (entries_typed s state e setup fit.0 typed) fit.1) fit.0;
+})

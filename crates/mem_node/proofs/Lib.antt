@@ -3,7 +3,4 @@ pub mod DiskLemmas
 pub mod NodeLemmas
 pub mod ReplayLemmas
 pub mod LoadLemmas
-pub mod LayLemmas
-pub mod FreshNodeLemmas
 pub mod FormatLemmas
-pub mod FixtureLemmas

@@ -9,11 +9,13 @@ use Rattle.mem_node.specs.declared.mem_node.MemNode.{MemNode}
 use Rattle.mem_node.specs.declared.node_fault.NodeFault.{NodeFault}
 use Rattle.mem_node.specs.declared.node_fault.NodeFault.TheVariants.{Down, Full, Other, Damaged, NoMemory}
 use Rattle.mem_rules.specs.declared.setup.Setup.{Setup}
-use Rattle.mem_node.specs.Header.{header_bytes, IsFormatted}
+use Rattle.node_disk.specs.Header.{header_bytes, IsFormatted}
+use Rattle.gate_log.specs.declared.side.Side.{Side}
 use Rattle.mem_node.specs.Disk.{IsReplayFault, IsLoadFault}
+use Rattle.node_disk.specs.Half.{half_of, image_at, log_at}
 use Rattle.mem_rules.specs.Fit.{size_of}
 use Rattle.mem_node.specs.Node.{IsOn, IsOnDisk}
-use Rattle.mem_node.proofs.DiskLemmas.{length-header}
+use Rattle.node_disk.proofs.HeaderLemmas.{length-header}
 use Rattle.disk_model.specs.LogBytes as log
 
 -- the header and the mark that were read
@@ -62,32 +64,39 @@ load_refused (Err r) before was failure passed other P Q fell calm weaker is =
 
 -- what was found makes a sound memory node
 module _ {D : Type 0} {G : Ghosts D} (tells : D → Type 0) (history : D → History) (health : D → Health) (s : Setup) (content : Content) (image : List ℕ) where
-  sound_of : (node : MemNode D G) → IsFormatted s content → length image ≡ size_of s → Holds content 4096 image → node.memory.setup ≡ s
+  sound_of : (node : MemNode D G) (half : Side) → IsFormatted s content → length image ≡ size_of s → half_of content ≡ half
+      → Holds content (image_at s half) image → node.log.extent.base ≡ log_at half → node.memory.setup ≡ s
       → (history node.log.disk).now.content ≡ content → IsOn tells history health node image → IsOnDisk tells history health node
-  sound_of node formatted sized stored own same on = (
-    image,
-    (
-      on.bytes,
-      record {
-        logged = on.logged;
-        has = record {
-          formatted = subst (λ (c : Content). IsFormatted node.memory.setup c) (sym same) (subst (λ (t : Setup). IsFormatted t content) (sym own) formatted);
-          sized = sized ∙ ap size_of (sym own);
-          stored = subst (λ (c : Content). Holds c 4096 image) (sym same) stored;
-          log = subst (λ (n : ℕ). log.StandsFor (history node.log.disk).now.content n on.bytes) node.based on.logged.stands;
-        };
-        makes = on.makes;
-      },
-    ),
-  )
+  sound_of node half formatted sized used stored based own same on =
+      let there = half_of (history node.log.disk).now.content in
+      let is : half ≡ there = sym used ∙ ap half_of (sym same) in
+      let at : image_at s half ≡ image_at node.memory.setup there =
+      ap (λ (h : Side). image_at s h) is ∙ ap (λ (t : Setup). image_at t there) (sym own) in (
+        image,
+        (
+          on.bytes,
+          record {
+            logged = on.logged;
+            half = based ∙ ap log_at is;
+            has = record {
+              formatted = subst (λ (c : Content). IsFormatted node.memory.setup c) (sym same) (subst (λ (t : Setup). IsFormatted t content) (sym own) formatted);
+              sized = sized ∙ ap size_of (sym own);
+              stored = subst (λ (n : ℕ). Holds (history node.log.disk).now.content n image) at (subst (λ (c : Content). Holds c (image_at s half) image) (sym same) stored);
+              log = subst (λ (n : ℕ). log.StandsFor (history node.log.disk).now.content n on.bytes) (based ∙ ap log_at is) on.logged.stands;
+            };
+            makes = on.makes;
+          },
+        ),
+      )
 
-  pub all_sound : {E : Type 0} (result : Result (MemNode D G) E) (Told Ready : Type 0) → (Ready → Told) → (Told → IsFormatted s content) → length image ≡ size_of s → (Told → Holds content 4096 image)
+  pub all_sound : {E : Type 0} (result : Result (MemNode D G) E) (Told Ready : Type 0) (half : Side) → (Ready → Told) → (Told → IsFormatted s content) → length image ≡ size_of s
+      → (Told → half_of content ≡ half) → (Told → Holds content (image_at s half) image) → IfOk result (λ (node : MemNode D G). node.log.extent.base ≡ log_at half)
       → IfOk result (λ (node : MemNode D G). Ready → IsOn tells history health node image) → IfOk result (λ (node : MemNode D G). node.memory.setup ≡ s)
       → IfOk result (λ (node : MemNode D G). Told → (history node.log.disk).now.content ≡ content)
       → IfOk result (λ (node : MemNode D G). Ready → IsOnDisk tells history health node)
-  all_sound (Ok node) Told Ready tells_ formatted sized stored on own same =
-      λ ready. sound_of node (formatted (tells_ ready)) sized (stored (tells_ ready)) own (same (tells_ ready)) (on ready)
-  all_sound (Err e) Told Ready tells_ formatted sized stored on own same = tt
+  all_sound (Ok node) Told Ready half tells_ formatted sized used stored based on own same =
+      λ ready. sound_of node half (formatted (tells_ ready)) sized (used (tells_ ready)) (stored (tells_ ready)) based own (same (tells_ ready)) (on ready)
+  all_sound (Err e) Told Ready half tells_ formatted sized used stored based on own same = tt
 
 pub ok_weaker : {X E : Type 0} (result : Result X E) (P Q : X → Type 0) → ((x : X) → P x → Q x) → IfOk result P → IfOk result Q
 ok_weaker (Ok x) P Q weaker is = weaker x is

@@ -1,5 +1,5 @@
 -- What a memory node has done where its log took an entry, or refused it.
-use Rattle.std.proofs.Common.{◌≡◌, ◌⊎◌, ◌≤◌, ◌+◌, ◌^◌, ℕ, Bool, true, false, List, [], ◌∷◌, ◌++◌, length, Option, Some, None, Result, Ok, Err, refl, sym, ap, subst, ◌∙◌, arith, inl, inr}
+use Rattle.std.proofs.Common.{◌≡◌, ◌⊎◌, ◌≤◌, ◌+◌, ◌^◌, ℕ, Bool, true, false, List, [], ◌∷◌, ◌++◌, length, Option, Some, None, Result, Ok, Err, refl, sym, subst, ◌∙◌, arith, inl, inr}
 use Rattle.disk_model.specs.Crash.{History, LeavesOnly}
 use Rattle.disk_model.specs.declared.disk.Disk.{Ghosts}
 use Rattle.disk_model.specs.Health.{Health, Fell, IsLive, Passed, Speaks}
@@ -9,12 +9,12 @@ use Rattle.gate_log.specs.declared.log_fault.LogFault.{LogFault}
 use Rattle.gate_log.specs.declared.log_fault.LogFault.TheVariants as log
 use Rattle.gate_log.specs.Fault.{IsAppendFault}
 use Rattle.gate_log.specs.declared.log.Log.{Log}
-use Rattle.gate_log.specs.Log.{IsLog, end_of}
+use Rattle.gate_log.specs.Log.{end_of}
 use Rattle.std.proofs.lemmas.List.{append-nil}
 use Rattle.mini_tx.specs.declared.entry.Entry.{Entry}
 use Rattle.mini_tx.specs.EntryGrammar.{entry_spelling}
 use Rattle.mem_node.specs.declared.mem_node.MemNode.{MemNode}
-use Rattle.mem_node.specs.declared.node_fault.NodeFault.TheVariants.{Full, NoMemory}
+use Rattle.mem_node.specs.declared.node_fault.NodeFault.TheVariants.{NoMemory}
 use Rattle.mem_rules.specs.declared.setup.Setup.{Setup}
 use Rattle.mem_node.specs.declared.shut.Shut.{Shut}
 use Rattle.mem_node.specs.declared.shut.Shut.TheVariants as shut
@@ -66,7 +66,7 @@ module _ {D : Type 0} {G : Ghosts D} (tells : D → Type 0) (history : D → His
   rests node entry image bytes sound =
       no_moment (IsBeforeOrAfter node.memory.setup image bytes entry) (history node.log.disk)
       (λ content left. inl (sound_leaves tells history health node.memory.setup node.log image bytes (state_of node.memory)
-      (small_image node.memory.setup node.memory.valid) sound content left node.based))
+      (small_image node.memory.setup node.memory.valid) sound content left))
 
   -- the same node, whatever proves its invariants and whatever room it has
   pub record IsSame (before now : MemNode D G) : Type 0 where

@@ -1,5 +1,5 @@
 -- A log that is replayed entry by entry.
-use Rattle.std.proofs.Common.{◌≡◌, ◌<◌, ◌≤◌, ◌+◌, ◌^◌, ℕ, List, [], ◌∷◌, ◌++◌, length, take, drop, get_or, Ok, refl, sym, ap, subst, ◌∙◌, append_assoc, arith, length-append}
+use Rattle.std.proofs.Common.{◌≡◌, ◌<◌, ◌≤◌, ◌+◌, ℕ, List, [], ◌∷◌, ◌++◌, length, take, drop, get_or, Ok, refl, sym, ap, subst, ◌∙◌, append_assoc, arith, length-append}
 use Rattle.std.proofs.lemmas.List.{take_more, take-append-drop}
 use Rattle.disk_model.specs.LogBytes.{entry_bytes, log_bytes}
 use Rattle.gate_log.proofs.LogLemmas.{length-log_bytes-more}
@@ -43,9 +43,9 @@ module _ (entries : List (List ℕ)) (i : ℕ) (x : List ℕ) (below : i < lengt
       subst (λ (xs : List (List ℕ)). Makes s image xs now) (sym more)
       (subst (λ (t : State). Makes s image (take i entries ++ x ∷ []) t) (sym taken.3) (makes_more s image (take i entries) state x taken.0 makes taken.1 taken.2))
 
-  pub is_unfit : (s : Setup) (image : List ℕ) (state : State) (at : ℕ) → Makes s image (take i entries) state → at ≡ 2 ^ 32 + length (log_bytes (take i entries))
-      → ((e : Entry) → entry_of x ≡ Ok e → IsFit s state e → ⊥) → IsUnfit s image entries at
-  is_unfit s image state at makes there unfit = record {
+  pub is_unfit : (s : Setup) (base : ℕ) (image : List ℕ) (state : State) (at : ℕ) → Makes s image (take i entries) state → at ≡ base + length (log_bytes (take i entries))
+      → ((e : Entry) → entry_of x ≡ Ok e → IsFit s state e → ⊥) → IsUnfit s base image entries at
+  is_unfit s base image state at makes there unfit = record {
     front = take i entries;
     bad = x;
     rest = drop (i + 1) entries;

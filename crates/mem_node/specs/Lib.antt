@@ -1,8 +1,5 @@
-pub mod Header
 pub mod Disk
 pub mod Node
 pub mod Laws
 pub mod Fault
 pub mod Format
-pub mod Lay
-pub mod Fixture

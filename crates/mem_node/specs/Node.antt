@@ -1,10 +1,10 @@
 -- A memory node as contracts see it, and how it stands on its disk.
-use Rattle.std.specs.Prelude.{◌≡◌, ◌⊎◌, ◌≤◌, ◌<◌, ◌+◌, ◌^◌, ℕ, Bool, List, [], ◌∷◌, ◌++◌, length, Option, Some, None, Result, OnOk, OnErr, IfErr, IsErrOf}
+use Rattle.std.specs.Prelude.{◌≡◌, ◌⊎◌, ◌<◌, ◌+◌, ◌^◌, ℕ, List, [], ◌∷◌, ◌++◌, length, Option, Some, None, Result, OnOk, OnErr, IfErr, IsErrOf}
 use Rattle.disk_model.specs.Crash.{Content, History, LeavesOnly}
 use Rattle.disk_model.specs.declared.disk.Disk.{Ghosts}
 use Rattle.disk_model.specs.Health.{Health, Fell, IsLive, Passed, Speaks}
 use Rattle.gate_log.specs.declared.log.Log.{Log}
-use Rattle.gate_log.specs.Log.{IsLog, end_of}
+use Rattle.gate_log.specs.Log.{IsLog, base_of, end_of}
 use Rattle.mini_tx.specs.declared.entry.Entry.{Entry}
 use Rattle.mini_tx.specs.EntryGrammar.{entry_spelling}
 use Rattle.mem_node.specs.declared.mem_node.MemNode.{MemNode}
@@ -17,6 +17,7 @@ use Rattle.mem_rules.specs.Memory.{state_of, setup_in, node_with}
 use Rattle.mem_rules.specs.State.{State, after_one}
 use Rattle.mem_rules.specs.Rules.{Node}
 use Rattle.mem_node.specs.Disk.{Has, Makes}
+use Rattle.node_disk.specs.Half.{half_of, log_at}
 
 abbrev pub log_of : {D : Type 0} {G : Ghosts D} → MemNode D G → Log D
 log_of node = node.log
@@ -49,11 +50,12 @@ abbrev pub HasRoom : {D : Type 0} → Log D → Option Entry → Type 0
 HasRoom log None = Unit {0}
 HasRoom log (Some e) = end_of log + 5 + length (entry_spelling e) < 2 ^ 32
 
--- the disk below a log has this stored image and the bytes of these entries, which make this state: nothing is pending
--- there, and the log may be appended to
+-- the log is that of the half in use, and the disk below it has this stored image and the bytes of these entries, which
+-- make this state: nothing is pending there, and the log may be appended to
 pub record IsSoundOn {D : Type 0} (tells : D → Type 0) (history : D → History) (health : D → Health)
     (s : Setup) (log : Log D) (image : List ℕ) (bytes : List (List ℕ)) (state : State) : Type 0 where
   pub logged : IsLog tells history health log bytes
+  pub half : base_of log ≡ log_at (half_of (history log.disk).now.content)
   pub has : Has s (history log.disk).now.content image bytes
   pub makes : Makes s image bytes state
 

@@ -10,11 +10,7 @@
 //! [`NodeFault::Down`] or [`NodeFault::Full`] another load.
 #![tactic(auto)]
 
-mod format;
-mod fresh;
-mod header;
 mod laws;
-mod lay;
 mod load;
 mod load_log;
 mod mem_node;
@@ -22,7 +18,7 @@ mod node_fault;
 mod replay;
 mod shut;
 
-pub use laws::{broken_disks_have_none, disks_have_one_state};
+pub use laws::{broken_disks_have_none, crash_images_stand_for_states, disks_have_one_state};
 pub use mem_node::MemNode;
 pub use mem_rules::Setup;
 pub use node_fault::NodeFault;

@@ -1,35 +1,21 @@
 ghost use Rattle.std.specs.Prelude.{◌≡◌, ◌≤◌, ◌<◌, ◌^◌, ◌↔◌, ℕ, [], length, vec_len, IsTrue, IfOk, IfErr, OnOk};
 ghost use Rattle.disk_model.specs.Crash.{Holds};
-ghost use Rattle.disk_model.specs.Health.{Fell, IsLive, Passed, Speaks};
+ghost use Rattle.disk_model.specs.Health.{Fell, Hands, IsLive, Passed, Speaks};
 ghost use Rattle.disk_model.specs.LogBytes.{log_bytes};
-ghost use Rattle.mem_node.specs.Header.{IsFormatted};
+ghost use Rattle.node_disk.specs.Header.{IsFormatted};
 ghost use Rattle.mem_rules.specs.Fit.{IsSetup, size_of};
 ghost use Rattle.mem_node.specs.Disk.{IsLoadFault, IsReplayFault, IsUnfit, Makes};
+ghost use Rattle.node_disk.specs.Half.{half_of, image_at};
 ghost use Rattle.mem_rules.specs.Memory.{state_of, setup_in};
 
-use crate::header::{HEADER_AT, MARK_AT, header, is_mark};
 use crate::node_fault::NodeFault;
 use crate::replay::replay;
 use disk_model::{Disk, Entries};
-use fs_layout::Layout;
+use gate_log::Side;
 use mem_rules::{Memory, Setup};
+use node_disk::{FORMATTED, HEADER_AT, MARK_AT, SELECTOR_AT, header, image_at, image_bytes};
+use sfs_base::Failed;
 use std::alloc::Global;
-
-/// The place of the stored image on the disk.
-pub(crate) const IMAGE_AT: u64 = 4096;
-
-/// The bytes of an image.
-pub(crate) fn image_bytes(setup: Setup) -> u32
-    requires { IsSetup setup }
-    ensures size { result ≡ size_of setup }
-    ensures small { result ≤ 69214208 }
-{
-    Layout {
-        blocks: setup.geometry.blocks,
-        inodes: setup.geometry.inodes,
-    }
-    .image_bytes()
-}
 
 /// Whether the disk is formatted, for this memory node of this cluster.
 fn is_formatted<D: Disk>(alloc: Global, disk: &mut D, setup: Setup) -> Result<bool, NodeFault>
@@ -51,18 +37,39 @@ fn is_formatted<D: Disk>(alloc: Global, disk: &mut D, setup: Setup) -> Result<bo
     Ok(is_mark(&found, &wanted, mark[0]))
 }
 
-/// The image that is stored on this memory node's disk.
-pub(crate) fn stored_image<D: Disk>(
+/// The half of the disk that is in use.
+fn half_in_use<D: Disk>(disk: &mut D) -> Result<Side, Failed>
+    ensures hands { Hands D.tells D.health 0 disk.old disk.new result }
+    ensures kept { Speaks D.tells D.health disk.old → D.history disk.new ≡ D.history disk.old }
+    ensures found { IfOk result (λ half. Speaks D.tells D.health disk.old
+        → half_of (D.history disk.old).now.content ≡ half) }
+{
+    let mut selector = [0; 1];
+    disk.read(SELECTOR_AT, &mut selector)?;
+    Ok(Side::of(selector[0]))
+}
+
+/// What is stored of a memory node beside its log: which half of the disk is in use, and the image there.
+#[derive(Drop)]
+pub(crate) struct Stored {
+    pub(crate) half: Side,
+    pub(crate) image: Vec<u8>,
+}
+
+/// What is stored on this memory node's disk.
+pub(crate) fn read_stored<D: Disk>(
     alloc: Global,
     disk: &mut D,
     setup: Setup,
-) -> Result<Vec<u8>, NodeFault>
+) -> Result<Stored, NodeFault>
     requires { IsSetup setup }
     ensures formatted { OnOk result (Speaks D.tells D.health disk.old
         → IsFormatted setup (D.history disk.old).now.content) }
-    ensures stored { IfOk result (λ image. Speaks D.tells D.health disk.old
-        → Holds (D.history disk.old).now.content 4096 image.items) }
-    ensures sized { IfOk result (λ image. vec_len image ≡ size_of setup) }
+    ensures half { IfOk result (λ stored. Speaks D.tells D.health disk.old
+        → half_of (D.history disk.old).now.content ≡ stored.half) }
+    ensures image { IfOk result (λ stored. Speaks D.tells D.health disk.old
+        → Holds (D.history disk.old).now.content (image_at setup stored.half) stored.image.items) }
+    ensures sized { IfOk result (λ stored. vec_len stored.image ≡ size_of setup) }
     ensures refused { IfErr result (λ fault. IsLoadFault fault
         (Fell 0 (D.health disk.old) (D.health disk.new)) (Passed 0 (D.health disk.old) (D.health disk.new))
         (Speaks D.tells D.health disk.old → IsFormatted setup (D.history disk.old).now.content → ⊥) (λ at. ⊥)) }
@@ -74,26 +81,36 @@ pub(crate) fn stored_image<D: Disk>(
     if !is_formatted(alloc, disk, setup)? {
         return Err(NodeFault::Other);
     }
+    let half = half_in_use(disk)?;
     let mut image = vec![in alloc; 0; image_bytes(setup) as usize]?;
-    disk.read(IMAGE_AT, &mut image)?;
-    Ok(image)
+    disk.read(image_at(setup, half), &mut image)?;
+    Ok(Stored { half, image })
 }
 
-/// What the entries of a log make of the stored image.
+/// What the entries of a log that begins at this place make of the stored image.
 pub(crate) fn taken(
     alloc: Global,
     setup: Setup,
     image: Vec<u8>,
+    base: u64,
     entries: &Entries,
 ) -> Result<Memory, NodeFault>
     requires setup { IsSetup setup }
     requires sized { vec_len image ≡ size_of setup }
+    requires base { base ≤ 2 ^ 33 }
     requires within { length (log_bytes entries.now) < 2 ^ 32 }
     ensures made { IfOk result (λ memory. Makes setup image.items entries.now (state_of memory)) }
     ensures setup { IfOk result (λ memory. setup_in memory ≡ setup) }
-    ensures refused { IfErr result (λ fault. IsReplayFault fault (IsUnfit setup image.items entries.now)) }
+    ensures refused { IfErr result (λ fault. IsReplayFault fault (IsUnfit setup base image.items entries.now)) }
 {
     let mut memory = Memory::opened(alloc, setup, image)?;
-    replay(alloc, &mut memory, entries.as_slice())?;
+    replay(alloc, &mut memory, base, entries.as_slice())?;
     Ok(memory)
+}
+
+/// Whether the wanted header was found, and the mark of a formatted disk.
+fn is_mark(found: &[u8], wanted: &[u8], mark: u8) -> bool
+    ensures { IsTrue result ↔ ((found.now ≡ wanted.now) × (mark ≡ 1)) }
+{
+    mark == FORMATTED && found == wanted
 }

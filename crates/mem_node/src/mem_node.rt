@@ -1,9 +1,7 @@
-ghost use Rattle.std.specs.Prelude.{◌≡◌, ◌^◌, ℕ, false, None};
-ghost use Rattle.gate_log.specs.Log.{base_of, has_failed};
+ghost use Rattle.std.specs.Prelude.{◌≡◌, false, None};
+ghost use Rattle.gate_log.specs.Log.{has_failed};
 
-use crate::format::{front, write_node};
-use crate::fresh::fresh;
-use crate::load::stored_image;
+use crate::load::read_stored;
 use crate::load_log::load_log;
 use crate::node_fault::NodeFault;
 use crate::shut::Shut;
@@ -11,6 +9,7 @@ use disk_model::{Disk, Stop};
 use gate_log::Log;
 use mem_rules::{Memory, Reaction, Setup, names_are_typed};
 use mini_tx::{Actor, Entry, Message, TxId, Vote, write_entry};
+use node_disk::{fresh, front, write_node};
 use std::alloc::Global;
 
 /// A memory node: a participant with its redo log.
@@ -21,7 +20,6 @@ pub struct MemNode<D: Disk> {
     pub(crate) log: Log<D>,
     /// Why it answers nothing until it is loaded again.
     pub(crate) shut: Option<Shut>,
-    ghost based: { base_of log ≡ 2 ^ 32 },
     ghost ready: { shut ≡ None → has_failed log ≡ false },
 }
 
@@ -31,7 +29,7 @@ impl<D: Disk> MemNode<D> {
     ghost use Rattle.disk_model.specs.Crash.{LeavesOnly};
     ghost use Rattle.disk_model.specs.Health.{Fell, IsLive, Passed, Speaks};
     ghost use Rattle.mem_node.specs.Format.{IsFresh, IsFormatting, IsFormatFault};
-    ghost use Rattle.mem_node.specs.Header.{IsFormatted};
+    ghost use Rattle.node_disk.specs.Header.{IsFormatted};
     ghost use Rattle.mem_node.specs.Disk.{IsLoadFault, IsBroken};
     ghost use Rattle.mini_tx.specs.EntryGrammar.{FitsEntry};
     ghost use Rattle.std.specs.Prelude.{◌<◌};
@@ -41,7 +39,8 @@ impl<D: Disk> MemNode<D> {
     ghost use Rattle.mem_rules.specs.Reactions.{IsFitNext};
     ghost use Rattle.mem_rules.specs.Rules.{react};
     ghost use Rattle.mem_node.specs.Fault.{shut_fault};
-    ghost use Rattle.mem_node.specs.Node.{setup_of, node_state_of, node_of, node_disk_of, shut_of, IsOnDisk, Handles};
+    ghost use Rattle.gate_log.specs.Log.{end_of};
+    ghost use Rattle.mem_node.specs.Node.{log_of, setup_of, node_state_of, node_of, node_disk_of, shut_of, IsOnDisk, Handles};
 
     /// Formats the disk of a memory node: the fresh image, the header and a log without entries, between a
     /// mark that is taken away before and set after them, each step safe before the next. A crash in it
@@ -93,8 +92,8 @@ impl<D: Disk> MemNode<D> {
         ensures live { OnOk result (IsLive 0 (D.health disk)) }
     {
         let mut disk = disk;
-        match stored_image(alloc, &mut disk, setup) {
-            Ok(image) => load_log(alloc, disk, setup, image),
+        match read_stored(alloc, &mut disk, setup) {
+            Ok(stored) => load_log(alloc, disk, setup, stored),
             Err(fault) => Err((fault, disk)),
         }
     }
@@ -111,6 +110,13 @@ impl<D: Disk> MemNode<D> {
         ensures { result ≡ (D.health (node_disk_of self.now)).is_starved }
     {
         self.log.starved()
+    }
+
+    /// How far the closed gate of its log lies from the log's start, in bytes. It takes no memory.
+    pub fn log_bytes(&self) -> u64
+        ensures { result ≡ end_of (log_of self.now) }
+    {
+        self.log.len()
     }
 
     /// The vote on an identifier of which a record is kept, or which is the floor of its coordinator. It takes

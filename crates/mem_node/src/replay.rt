@@ -1,4 +1,4 @@
-ghost use Rattle.std.specs.Prelude.{◌≡◌, ◌<◌, ◌^◌, length, Ok, IfErr, OnOk};
+ghost use Rattle.std.specs.Prelude.{◌≡◌, ◌≤◌, ◌<◌, ◌^◌, length, Ok, IfErr, OnOk};
 ghost use Rattle.disk_model.specs.LogBytes.{log_bytes};
 ghost use Rattle.mini_tx.specs.EntryReading.{entry_of};
 ghost use Rattle.mem_node.specs.Disk.{Makes, IsUnfit, IsReplayFault};
@@ -10,9 +10,6 @@ use crate::node_fault::NodeFault;
 use mem_rules::Memory;
 use mini_tx::{Bytes, EntryFault, read_entry};
 use std::alloc::Global;
-
-/// The place of a memory node's log on its disk.
-pub(crate) const LOG_AT: u64 = 1 << 32;
 
 /// The bytes before an entry in a log: its gate and its length.
 const HEADER_BYTES: u64 = 5;
@@ -38,15 +35,22 @@ fn take(alloc: Global, memory: &mut Memory, bytes: &[u8], at: u64) -> Result<(),
     Ok(())
 }
 
-/// Takes all entries of a log, in order.
-pub(crate) fn replay(alloc: Global, memory: &mut Memory, entries: &[Bytes]) -> Result<(), NodeFault>
+/// Takes all entries of a log that begins at this place, in order.
+pub(crate) fn replay(
+    alloc: Global,
+    memory: &mut Memory,
+    base: u64,
+    entries: &[Bytes],
+) -> Result<(), NodeFault>
+    requires base { base ≤ 2 ^ 33 }
     requires within { length (log_bytes entries.now) < 2 ^ 32 }
     requires fresh { state_of memory.old ≡ opened (setup_in memory.old).geometry.nodes (state_of memory.old).image }
-    ensures refused { IfErr result (λ fault. IsReplayFault fault (IsUnfit (setup_in memory.old) (state_of memory.old).image entries.now)) }
+    ensures refused { IfErr result (λ fault. IsReplayFault fault
+        (IsUnfit (setup_in memory.old) base (state_of memory.old).image entries.now)) }
     ensures made { OnOk result (Makes (setup_in memory.old) (state_of memory.old).image entries.now (state_of memory.new)) }
     ensures setup { setup_in memory.new ≡ setup_in memory.old }
 {
-    let mut at = LOG_AT;
+    let mut at = base;
     for bytes in entries {
         take(alloc, memory, bytes.as_slice(), at)?;
         at += HEADER_BYTES + bytes.len() as u64;

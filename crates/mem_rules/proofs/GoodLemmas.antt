@@ -13,7 +13,7 @@ use Rattle.mini_tx.specs.declared.tx_id.TxId.{TxId}
 use Rattle.mini_tx.specs.declared.vote.Vote.{Vote}
 use Rattle.mini_tx.specs.declared.write_at.WriteAt.{WriteAt}
 use Rattle.mini_tx.specs.FlatMemory.{with_bytes}
-use Rattle.lock_table.specs.Held.{overlap}
+use Rattle.lock_table.specs.Spans.{overlap}
 use Rattle.mem_rules.specs.declared.floor.Floor.{Floor}
 use Rattle.mem_rules.specs.declared.kept.Kept.{Kept}
 use Rattle.mem_rules.specs.declared.setup.Setup.{Setup}
@@ -23,7 +23,7 @@ use Rattle.mem_rules.specs.Identifiers.{precedes, is_same}
 use Rattle.mem_rules.specs.Items.{written}
 use Rattle.mem_rules.specs.Rules.{is_undecided, meet, blocks}
 use Rattle.mem_rules.specs.State.{State, kept_of, placed_in, with_decision, decided, committed, writes_kept, raise, after_entry}
-use Rattle.mem_rules.proofs.IdentifierLemmas.{trans, or_after}
+use Rattle.lock_table.proofs.OrderLemmas.{trans, or_after}
 use Rattle.mem_rules.proofs.RecordLemmas.{Follows, stays}
 
 -- ---- images
@@ -86,7 +86,7 @@ one : (a b : Kept) → ◌≡◌ {A = Option Kept} (Some a) (Some b) → a ≡ b
 one a b e = cc
 
 -- what holds of all holds of the record that is found
-of_found : (P : Kept → Type 0) (test : Kept → Bool) (kept : List Kept) (k : Kept) → AllByRecursion P kept → find test kept ≡ Some k → P k
+pub of_found : (P : Kept → Type 0) (test : Kept → Bool) (kept : List Kept) (k : Kept) → AllByRecursion P kept → find test kept ≡ Some k → P k
 of_found P test [] k all is = absurd cc
 of_found P test (o ∷ kept) k all is = go (test o) is (of_found P test kept k all.1)
   where
@@ -111,7 +111,7 @@ not_both : (b : Bool) → b ≡ true → b ≡ false → ⊥
 not_both true is not_ = absurd cc
 not_both false is not_ = absurd cc
 
-no_byte : (these those : List Range) → meet these those ≡ false → (place : ℕ) → IsIn these place → IsIn those place → ⊥
+pub no_byte : (these those : List Range) → meet these those ≡ false → (place : ℕ) → IsIn these place → IsIn those place → ⊥
 no_byte these those apart place mine theirs =
     let one = Any-from_list_any (covers place) these mine in
     let other = Any-from_list_any (covers place) those theirs in

@@ -10,7 +10,7 @@ use Rattle.mem_rules.specs.Good.{AreAscending}
 use Rattle.mem_rules.specs.Identifiers.{precedes, is_same}
 use Rattle.mem_rules.specs.Records.{IsPlaceOf}
 use Rattle.mem_rules.specs.State.{kept_of, placed_in, with_decision, decided}
-use Rattle.mem_rules.proofs.IdentifierLemmas.{trans, is_one, not_same, not_same_back, or_after}
+use Rattle.lock_table.proofs.OrderLemmas.{trans, is_one, not_same, not_same_back, or_after}
 
 abbrev pub Follows : TxId → Kept → Type 0
 Follows id k = precedes id k.id ≡ true
@@ -147,7 +147,7 @@ decided_is id commit k (o ∷ kept) (suc at) ascending place is same =
 abbrev pub stays : TxId → Kept → Bool
 stays id k = not (is_same k.id id)
 
-others_left : (id : TxId) (kept : List Kept) → AllByRecursion (Follows id) kept → filter (stays id) kept ≡ kept
+pub others_left : (id : TxId) (kept : List Kept) → AllByRecursion (Follows id) kept → filter (stays id) kept ≡ kept
 others_left id [] later = refl
 others_left id (o ∷ kept) later =
     ap (λ b. cond (not b) (o ∷ filter (stays id) kept) (filter (stays id) kept)) (not_same_back id o.id later.0)

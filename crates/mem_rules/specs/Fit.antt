@@ -1,5 +1,5 @@
 -- Which setups, messages and entries a memory node may meet.
-use Rattle.std.specs.Prelude.{◌≡◌, ◌<◌, ◌≤◌, ◌+◌, ℕ, nat_lt, nat_le, ◌&&◌, Bool, true, false, List, [], ◌∷◌, length, map, Option, Some, None, All, Contains}
+use Rattle.std.specs.Prelude.{◌≡◌, ◌<◌, ◌≤◌, ◌+◌, ℕ, Bool, true, false, List, [], ◌∷◌, length, map, Option, Some, None, All, Contains}
 use Rattle.std.specs.List.{list_any}
 use Rattle.mini_tx.specs.declared.actor.Actor.{Actor}
 use Rattle.mini_tx.specs.declared.actor.Actor.TheVariants.{Node, Memory, Manager}
@@ -16,6 +16,8 @@ use Rattle.mini_tx.specs.Laws.{IsTypedId, IsTypedCut, IsTypedVote}
 use Rattle.mini_tx.specs.Minitransactions.{memory_of, place_of, bytes_of, refusal}
 use Rattle.mini_tx.specs.EntryGrammar.{ascends_from}
 use Rattle.fs_layout.specs.Places.{image_size}
+pub use Rattle.lock_table.specs.Locked.{IsIn}
+pub use Rattle.lock_table.specs.Spans.{covers}
 use Rattle.mem_rules.specs.declared.kept.Kept.{Kept}
 use Rattle.mem_rules.specs.declared.setup.Setup.{Setup}
 use Rattle.mem_rules.specs.State.{State, kept_of}
@@ -44,14 +46,6 @@ IsWriteInside size w = IsInside size w.at (length w.bytes)
 
 abbrev pub IsRangeInside : ℕ → Range → Type 0
 IsRangeInside size r = IsInside size r.at r.length
-
--- whether a range has a place
-abbrev pub covers : ℕ → Range → Bool
-covers place r = nat_le r.at place && nat_lt place (r.at + r.length)
-
--- one of these ranges has a place
-abbrev pub IsIn : List Range → ℕ → Type 0
-IsIn ranges place = list_any (covers place) ranges ≡ true
 
 -- each byte of a write lies in one of the ranges
 abbrev pub IsCovered : List Range → WriteAt → Type 0

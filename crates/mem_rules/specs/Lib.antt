@@ -5,5 +5,6 @@ pub mod Rules
 pub mod Fit
 pub mod Good
 pub mod Records
+pub mod Index
 pub mod Memory
 pub mod Reactions

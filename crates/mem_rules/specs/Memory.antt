@@ -1,9 +1,10 @@
 -- What a memory node keeps in memory, as contracts see it, and what it does with a message.
-use Rattle.std.specs.Prelude.{◌≡◌, ◌<◌, Option, Some, None, vec_len, vec_capacity}
+use Rattle.std.specs.Prelude.{◌≡◌, ◌<◌, Option, Some, None, length, vec_len, vec_capacity}
 use Rattle.mini_tx.specs.declared.entry.Entry.{Entry}
 use Rattle.mini_tx.specs.declared.entry.Entry.TheVariants as entry
 use Rattle.mini_tx.specs.declared.tx_id.TxId.{TxId}
 use Rattle.mini_tx.specs.declared.vote.Vote.{Vote}
+use Rattle.lock_table.specs.Table.{HasRoom}
 use Rattle.mem_rules.specs.declared.kept.Kept.{Kept}
 use Rattle.mem_rules.specs.declared.memory.Memory.{Memory}
 use Rattle.mem_rules.specs.declared.reaction.Reaction as code
@@ -48,7 +49,7 @@ IsRecordRoom (Record v) = Unit {0}
 -- the memory that an entry needs is there
 abbrev pub IsRoomFor : Memory → Entry → Room → Type 0
 IsRoomFor m (entry.Single id v writes) room = Unit {0}
-IsRoomFor m (entry.Prepared id participants v ranges writes) room = (room ≡ Record v) × (vec_len m.kept < vec_capacity m.kept)
+IsRoomFor m (entry.Prepared id participants v ranges writes) room = (room ≡ Record v) × (vec_len m.kept < vec_capacity m.kept) × HasRoom m.locks (length ranges)
 IsRoomFor m (entry.Refused id v) room = Unit {0}
 IsRoomFor m (entry.Decided id commit) room = Unit {0}
 IsRoomFor m (entry.Forgotten id) room = Unit {0}

@@ -14,7 +14,8 @@ use Rattle.mini_tx.specs.declared.tx_id.TxId.{TxId}
 use Rattle.mini_tx.specs.declared.vote.Vote.{Vote}
 use Rattle.mini_tx.specs.declared.vote.Vote.TheVariants as vote
 use Rattle.mini_tx.specs.EntryGrammar.{is_granted}
-use Rattle.lock_table.specs.Held.{overlap}
+pub use Rattle.lock_table.specs.Order.{least_of}
+use Rattle.lock_table.specs.Spans.{overlap}
 use Rattle.mem_rules.specs.declared.floor.Floor.{Floor}
 use Rattle.mem_rules.specs.declared.kept.Kept.{Kept}
 use Rattle.mem_rules.specs.declared.rule.Rule.{Rule}
@@ -93,11 +94,6 @@ is_undecided k = is_none k.decision
 
 abbrev pub blocks : List Range → Kept → Bool
 blocks ranges k = is_undecided k && meet k.ranges ranges
-
--- the first of both in the order of identifiers
-abbrev pub least_of : Option TxId → TxId → Option TxId
-least_of None id = Some id
-least_of (Some least) id = if precedes id least then Some id else Some least
 
 -- the least identifier of a record with a property, where that of the records before is known
 abbrev pub least_with : (Kept → Bool) → Option TxId → List Kept → Option TxId

@@ -4,7 +4,6 @@ ghost use Rattle.mem_rules.specs.Memory.{state_of, setup_in};
 ghost use Rattle.mem_rules.specs.State.{kept_of};
 
 use crate::fits::{are_below, are_covered, lie_inside, ranges_lie_inside};
-use crate::locks::are_locked;
 use crate::memory::Memory;
 use crate::records::record_of;
 use mini_tx::{Entry, Range, TxId, WriteAt};
@@ -66,7 +65,7 @@ impl Memory {
         self.has_coordinator(id)
             && self.are_there(participants)
             && are_in_place(self.image.len(), ranges, writes)
-            && !are_locked(&self.kept, ranges)
+            && !self.are_locked(ranges)
             && record_of(&self.kept, id).is_none()
     }
 

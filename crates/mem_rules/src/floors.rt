@@ -4,7 +4,8 @@ ghost use Rattle.mem_rules.specs.Rules.{is_above};
 ghost use Rattle.mem_rules.specs.State.{raise, raised_cut};
 
 use crate::floor::Floor;
-use crate::order::{is_before, is_earlier};
+use crate::order::is_earlier;
+use lock_table::is_before;
 use mini_tx::{CutId, NoMemory, TxId, Vote};
 use std::alloc::Global;
 

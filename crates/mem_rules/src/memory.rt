@@ -2,6 +2,9 @@ ghost use Rattle.std.specs.Prelude.{◌≡◌, vec_len, IfOk};
 ghost use Rattle.mem_rules.specs.Fit.{IsSetup, size_of};
 ghost use Rattle.std.specs.List.{AllByRecursion-prop};
 ghost use Rattle.std.proofs.Props.{props};
+ghost use Rattle.std.proofs.Math.Bool.{Bool-set};
+ghost use Rattle.lock_table.specs.Table.{locks_in};
+ghost use Rattle.mem_rules.specs.Index.{IsIndexed};
 ghost use Rattle.mem_rules.specs.Good.{IsGood, AreAscending-prop, AreAllApart-prop};
 ghost use Rattle.mem_rules.specs.State.{state_with};
 
@@ -9,11 +12,12 @@ use crate::floor::Floor;
 use crate::floors::{no_floors, raise, raised};
 use crate::image::Image;
 use crate::kept::Kept;
-use crate::records::{decide, forget, keep, record_of};
+use crate::records::{decide, forget, keep, ranges_of, record_of};
 use crate::room::Room;
 use crate::setup::Setup;
 use crate::standing::vote_at;
 use crate::votes::copied;
+use lock_table::Locks;
 use mini_tx::{CutId, Entry, NoMemory, TxId, Vote};
 use std::alloc::Global;
 
@@ -28,9 +32,12 @@ pub struct Memory {
     pub(crate) kept: Vec<Kept>,
     /// The greatest cut that was held.
     pub(crate) cut: Option<CutId>,
+    /// The ranges of the records that are undecided.
+    pub(crate) locks: Locks,
     pub(crate) image: Image,
     ghost good: { IsGood setup (state_with floors.items kept.items cut image) } by { Prim.hlevel (props, AllByRecursion-prop, AreAscending-prop, AreAllApart-prop) },
     ghost valid: { IsSetup setup },
+    ghost indexed: { IsIndexed kept.items (locks_in locks) } by { Prim.hlevel (props, Bool-set) },
 }
 
 impl Memory {
@@ -53,6 +60,7 @@ impl Memory {
             floors: no_floors(alloc, setup.geometry.nodes)?,
             kept: Vec::new(alloc),
             cut: None,
+            locks: Locks::new(alloc),
             image: Image::new(image),
         })
     }
@@ -64,8 +72,9 @@ impl Memory {
         ensures setup { setup_in self.new ≡ setup_in self.old }
     {
         match entry {
-            Entry::Prepared { vote, .. } => {
+            Entry::Prepared { vote, ranges, .. } => {
                 self.kept.reserve(1)?;
+                self.locks.reserve(ranges.as_slice().len())?;
                 Ok(Room::Record(copied(vote)?))
             }
             _ => Ok(Room::Nothing),
@@ -92,6 +101,7 @@ impl Memory {
                 writes,
             } => {
                 raise(&mut self.floors, id, room.into_vote());
+                self.locks.lock(id, ranges.as_slice());
                 keep(
                     &mut self.kept,
                     Kept {
@@ -110,6 +120,7 @@ impl Memory {
                 vote,
             ),
             Entry::Decided { id, commit } => {
+                self.locks.free(id, ranges_of(&self.kept, id));
                 let writes = decide(self.alloc, &mut self.kept, id, commit);
                 if commit {
                     self.image.write_all(writes.as_slice());

@@ -1,23 +1,7 @@
 ghost use Rattle.std.specs.Prelude.{◌≡◌};
-ghost use Rattle.mem_rules.specs.Identifiers.{precedes, is_same, cut_precedes};
+ghost use Rattle.mem_rules.specs.Identifiers.{cut_precedes};
 
-use mini_tx::{CutId, TxId};
-
-/// Whether an identifier comes before another.
-pub(crate) fn is_before(id: TxId, other: TxId) -> bool
-    ensures { result ≡ precedes id other }
-{
-    id.coord < other.coord
-        || id.coord == other.coord
-            && (id.boot < other.boot || id.boot == other.boot && id.seq < other.seq)
-}
-
-/// Whether two identifiers are the same.
-pub(crate) fn are_equal(id: TxId, other: TxId) -> bool
-    ensures { result ≡ is_same id other }
-{
-    id.coord == other.coord && id.boot == other.boot && id.seq == other.seq
-}
+use mini_tx::CutId;
 
 /// Whether a cut comes before another.
 pub(crate) fn is_earlier(cut: CutId, other: CutId) -> bool

@@ -6,7 +6,6 @@ ghost use Rattle.mem_rules.specs.Items.{range_of};
 ghost use Rattle.mem_rules.specs.State.{kept_of};
 
 use crate::items::{difference, ranges};
-use crate::locks::least_blocking;
 use crate::memory::Memory;
 use crate::reaction::Reaction;
 use crate::records::{first, named, record_of};
@@ -100,7 +99,7 @@ impl Memory {
             return Ok(None);
         }
         let ranges = ranges(self.alloc, items)?;
-        Ok(least_blocking(&self.kept, ranges.as_slice()))
+        Ok(self.least_blocking(ranges.as_slice()))
     }
 
     /// It hears what was decided.

@@ -2,13 +2,14 @@ ghost use Rattle.std.specs.Prelude.{◌≡◌, ◌≢◌, ◌<◌, ◌≤◌, No
 ghost use Rattle.std.specs.Option.{option_copied};
 ghost use Rattle.mem_rules.specs.Good.{AreAscending};
 ghost use Rattle.mem_rules.specs.Identifiers.{is_same};
+ghost use Rattle.mem_rules.specs.Index.{ranges_kept};
 ghost use Rattle.mem_rules.specs.Records.{IsPlaceOf};
 ghost use Rattle.mem_rules.specs.Rules.{named};
 ghost use Rattle.mem_rules.specs.State.{kept_of, placed_in, decided, writes_kept};
 
 use crate::kept::Kept;
-use crate::order::{are_equal, is_before};
-use mini_tx::{KeptId, KeptIds, NoMemory, Numbers, TxId, Writes};
+use lock_table::{are_equal, is_before};
+use mini_tx::{KeptId, KeptIds, NoMemory, Numbers, Range, TxId, Writes};
 use std::alloc::Global;
 
 /// How many records come before an identifier.
@@ -34,6 +35,17 @@ pub(crate) fn record_of(kept: &[Kept], id: TxId) -> Option<&Kept>
         Some(record)
     } else {
         None
+    }
+}
+
+/// The ranges of the record of an identifier; none where none is kept.
+pub(crate) fn ranges_of(kept: &[Kept], id: TxId) -> &[Range]
+    requires { AreAscending kept.now }
+    ensures { result.now ≡ ranges_kept (kept_of kept.now id) }
+{
+    match record_of(kept, id) {
+        Some(record) => record.ranges.as_slice(),
+        None => &[],
     }
 }
 

@@ -3,8 +3,8 @@ ghost use Rattle.std.specs.Option.{option_copied};
 ghost use Rattle.mem_rules.specs.Rules.{to_floor, is_above, vote_standing};
 
 use crate::floor::Floor;
-use crate::order::{are_equal, is_before};
 use crate::votes::copied;
+use lock_table::{are_equal, is_before};
 use mini_tx::{NoMemory, TxId, Vote};
 
 /// Where an identifier stands to the floor of its coordinator.

@@ -5,7 +5,6 @@ ghost use Rattle.mem_node.specs.Node.{setup_of};
 ghost use Rattle.mem_rules.specs.Fit.{IsFitMessage, IsOfTransactions};
 
 use disk_model::{Calls, Disk, PlanDisk};
-use gate_log::Log;
 use mem_node::{MemNode, NodeFault, Setup};
 use mini_tx::{
     Actor, Bytes, Geometry4, Item, Message, NoMemory, Numbers, Placed, PlacedItem, Reads, TxId,
@@ -23,9 +22,6 @@ pub(crate) const SETUP: Setup = Setup {
     },
     index: 0,
 };
-
-/// Where its log begins on its disk.
-const LOG_AT: u64 = 1 << 32;
 
 /// Where its block begins.
 const BLOCK_AT: u32 = 12_288;
@@ -46,6 +42,13 @@ pub(crate) fn blank(alloc: Global) -> PlanDisk {
     PlanDisk::new(alloc, Calls::new(alloc))
 }
 
+/// A formatted disk.
+pub(crate) fn formatted(alloc: Global) -> Result<PlanDisk, NodeFault> {
+    let mut disk = blank(alloc);
+    MemNode::format(alloc, &mut disk, SETUP)?;
+    Ok(disk)
+}
+
 /// The memory node of this disk. Where it is refused the disk is let go.
 pub(crate) fn loaded<D: Disk + Drop>(alloc: Global, disk: D) -> Result<MemNode<D>, NodeFault>
     ensures { IfOk result (λ node. setup_of node ≡ pair) }
@@ -53,17 +56,6 @@ pub(crate) fn loaded<D: Disk + Drop>(alloc: Global, disk: D) -> Result<MemNode<D
     match MemNode::load(alloc, disk, SETUP) {
         Ok(node) => Ok(node),
         Err((fault, _disk)) => Err(fault),
-    }
-}
-
-/// How many entries the log of this disk has.
-pub(crate) fn count_entries<D: Disk + Drop>(
-    alloc: Global,
-    disk: D,
-) -> Result<(usize, D), NodeFault> {
-    match Log::load(alloc, disk, LOG_AT) {
-        Ok((log, entries)) => Ok((entries.len(), log.into_disk())),
-        Err((fault, _disk)) => Err(NodeFault::from(fault)),
     }
 }
 

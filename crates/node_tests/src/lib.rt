@@ -5,3 +5,5 @@
 mod fixture;
 #[cfg(test)]
 mod nodes;
+#[cfg(test)]
+mod stops;

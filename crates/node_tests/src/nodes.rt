@@ -1,41 +1,8 @@
-ghost use Rattle.mem_rules.specs.Fit.{IsSetup};
-
-use crate::fixture::{
-    Ask, SETUP, blank, count_entries, granted, id_of, loaded, prepare, tell, voted,
-};
-use disk_model::{Choice, Disk, PlanDisk, Stop};
-use mem_node::{MemNode, NodeFault, Setup};
-use mini_tx::{Geometry4, KeptId, KeptIds, Message, NoMemory, Numbers, Reads, TxId, Vote};
+use crate::fixture::{Ask, blank, formatted, granted, id_of, loaded, prepare, tell, voted};
+use mem_node::NodeFault;
+use mini_tx::{KeptId, KeptIds, Message, NoMemory, Numbers, Reads, TxId, Vote};
 use std::alloc::Global;
 use std::test::*;
-
-/// The other memory node of the cluster.
-const OTHER: Setup = Setup {
-    geometry: Geometry4 {
-        nodes: 2,
-        memories: 2,
-        blocks: 1,
-        inodes: 1,
-    },
-    index: 1,
-};
-
-/// Why the disk is not loaded.
-fn refusal(alloc: Global, disk: PlanDisk, setup: Setup) -> Option<NodeFault>
-    requires { IsSetup setup }
-{
-    match MemNode::load(alloc, disk, setup) {
-        Ok(_node) => None,
-        Err((fault, _disk)) => Some(fault),
-    }
-}
-
-/// A formatted disk.
-fn formatted(alloc: Global) -> Result<PlanDisk, NodeFault> {
-    let mut disk = blank(alloc);
-    MemNode::format(alloc, &mut disk, SETUP)?;
-    Ok(disk)
-}
 
 /// That it keeps these records, each of both memory nodes.
 fn kept(alloc: Global, ids: &[TxId]) -> Result<Option<Message>, NoMemory> {
@@ -102,32 +69,19 @@ fn what_is_asked_about_unseen_is_forced_to_abort(rt: HostRuntime) -> Result<(), 
 }
 
 #[test]
-fn a_disk_is_loaded_by_its_memory_node_alone(rt: HostRuntime) -> Result<(), Fail> {
+fn a_disk_that_was_never_formatted_is_refused(rt: HostRuntime) -> Result<(), Fail> {
     let alloc = rt.alloc();
-    let other = Some(NodeFault::Other);
-    assert_eq!(rt; refusal(alloc, blank(alloc), SETUP), other);
-    assert_eq!(rt; refusal(alloc, formatted(alloc)?, OTHER), other);
-    assert_eq!(rt; refusal(alloc, formatted(alloc)?, SETUP), None);
+    assert_eq!(rt; loaded(alloc, blank(alloc)).err(), Some(NodeFault::Other));
     Ok(())
 }
 
 #[test]
-fn a_vote_that_was_stopped_leaves_its_entry_or_none(rt: HostRuntime) -> Result<(), Fail> {
+fn a_vote_is_told_by_its_identifier(rt: HostRuntime) -> Result<(), Fail> {
     let alloc = rt.alloc();
-    let mut node = loaded(alloc, Stop::new(formatted(alloc)?))?;
-    assert!(rt; !node.stopped());
-    node.stop_after(Some(3));
-    let answer = prepare(alloc, &mut node, id_of(0, 1), Ask::WriteSeven).err();
-    assert_eq!(rt; answer, Some(NodeFault::Down));
-    assert!(rt; node.stopped());
+    let mut node = loaded(alloc, formatted(alloc)?)?;
+    prepare(alloc, &mut node, id_of(0, 1), Ask::WriteSeven)?;
     assert!(rt; !node.starved());
-    let again = prepare(alloc, &mut node, id_of(0, 1), Ask::ReadMark).err();
-    assert_eq!(rt; again, Some(NodeFault::Down));
-    // The gate was opened, and is not safe yet.
-    let mut disk = node.stop();
-    assert_eq!(rt; disk.restart(Choice::New), Ok(()));
-    let (count, _disk) = count_entries(alloc, disk)?;
-    assert_eq!(rt; count, 1);
+    assert!(rt; node.vote(id_of(0, 1)).is_some());
     Ok(())
 }
 

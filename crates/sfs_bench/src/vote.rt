@@ -2,7 +2,7 @@
 //! beside a copy of as many bytes.
 
 ghost use Rattle.std.specs.Prelude.{◌≡◌, ◌∷◌, [], IfOk};
-ghost use Rattle.mem_node.specs.Fixture.{lone, AreFitItems, IsAsked};
+ghost use Rattle.sfs_bench.specs.Fixture.{lone, AreFitItems, IsAsked};
 ghost use Rattle.mem_node.specs.Node.{setup_of};
 
 use disk_model::{Calls, Disk, PlanDisk};

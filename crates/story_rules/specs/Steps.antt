@@ -177,13 +177,13 @@ heard_from c (Memory m) x = rules.heard c m x
 heard_from c (Node n) x = rules.quiet c
 heard_from c Manager x = rules.quiet c
 
+abbrev pub to_actor : Story → ℕ → Posted → ℕ → Option coord.State → Story
+to_actor story n p boot None = story
+to_actor story n p boot (Some c) = stepped story n boot c (heard_from c p.from p.message)
+
 abbrev pub to_node : Story → ℕ → Posted → Option Seat → Story
 to_node story n p None = story
-to_node story n p (Some seat) = go seat.actor
-  where
-    go : Option coord.State → Story
-    go None = story
-    go (Some c) = stepped story n seat.boot c (heard_from c p.from p.message)
+to_node story n p (Some seat) = to_actor story n p seat.boot seat.actor
 
 -- ---- the steps
 
@@ -193,24 +193,24 @@ to_receiver story k how p (Memory m) = to_memory story m k p how (slice_get stor
 to_receiver story k how p (Node n) = to_node story n p (slice_get story.nodes n)
 to_receiver story k how p Manager = story
 
+abbrev pub given : Story → ℕ → How → Option Posted → Story
+given story k how None = story
+given story k how (Some p) = to_receiver story k how p p.to
+
 abbrev pub delivered : Story → ℕ → How → Story
-delivered story k how = go (message_at story k)
-  where
-    go : Option Posted → Story
-    go None = story
-    go (Some p) = to_receiver story k how p p.to
+delivered story k how = given story k how (message_at story k)
 
 -- what a node's coordinator makes of the story, where it runs
-abbrev pub at_node : Story → ℕ → (ℕ → coord.State → Story) → Story
-at_node story n does = go (slice_get story.nodes n)
-  where
-    runs : ℕ → Option coord.State → Story
-    runs boot None = story
-    runs boot (Some c) = does boot c
+abbrev pub at_actor : Story → (ℕ → coord.State → Story) → ℕ → Option coord.State → Story
+at_actor story does boot None = story
+at_actor story does boot (Some c) = does boot c
 
-    go : Option Seat → Story
-    go None = story
-    go (Some seat) = runs seat.boot seat.actor
+abbrev pub at_seat : Story → (ℕ → coord.State → Story) → Option Seat → Story
+at_seat story does None = story
+at_seat story does (Some seat) = at_actor story does seat.boot seat.actor
+
+abbrev pub at_node : Story → ℕ → (ℕ → coord.State → Story) → Story
+at_node story n does = at_seat story does (slice_get story.nodes n)
 
 -- a node begins a minitransaction
 abbrev pub begun_by : Story → ℕ → List Item → Story

@@ -1,4 +1,4 @@
-//! The tests of minitransactions, of locks, of links and of coordinators. They stand in a crate above all of these, so
+//! The tests of minitransactions, of links and of coordinators. They stand in a crate above all of these, so
 //! that none is proved once more for its tests.
 #![tactic(auto)]
 
@@ -6,7 +6,5 @@
 mod coordinators;
 #[cfg(test)]
 mod links;
-#[cfg(test)]
-mod locks;
 #[cfg(test)]
 mod minis;

@@ -30,8 +30,8 @@ returns-in_err-take-clause-refused c =
     rw (p.1, p.2)
     (replay_fault c.in_err-take.field-0.0
     (λ place. (place ≡ c.loop-bytes.at) × ((e : Entry) → entry_of c.as_slice.result.now ≡ Ok e → IsFit old.setup (state_of old) e → ⊥))
-    (IsUnfit s (state_of c.args.memory.now).image c.args.entries.now)
-    (λ place is. is_unfit c.args.entries.now c.loop-bytes.bytes-index x below c.bytes-item.is s (state_of c.args.memory.now).image (state_of old) place inv.made (is.0 ∙ inv.there)
+    (IsUnfit s c.args.base (state_of c.args.memory.now).image c.args.entries.now)
+    (λ place is. is_unfit c.args.entries.now c.loop-bytes.bytes-index x below c.bytes-item.is s c.args.base (state_of c.args.memory.now).image (state_of old) place inv.made (is.0 ∙ inv.there)
     (λ e read fit. is.1 e (ap entry_of same ∙ read) (subst (λ (t : Setup). IsFit t (state_of old) e) (sym inv.setup) fit)))
     c.in_err-take.ensures.refused)
 

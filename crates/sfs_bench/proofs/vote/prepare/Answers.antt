@@ -1,7 +1,7 @@
 use Rattle.std.proofs.Common.{List, [], ◌∷◌, ◌++◌, refl, sym, ap, subst, ◌∙◌}
 use Rattle.mini_tx.specs.declared.placed_item.PlacedItem.{PlacedItem}
-use Rattle.mem_node.specs.Fixture.{lone, AreFitItems}
-use Rattle.mem_node.proofs.FixtureLemmas.{asked_is_fit}
+use Rattle.sfs_bench.specs.Fixture.{lone, AreFitItems}
+use Rattle.sfs_bench.proofs.FixtureLemmas.{asked_is_fit}
 use Rattle.sfs_bench.proofs.vote.prepare.Goals as goal
 
 pub returns : goal.returns

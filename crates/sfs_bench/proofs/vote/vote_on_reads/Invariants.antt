@@ -1,5 +1,5 @@
 use Rattle.std.proofs.Common.{◌≡◌}
-use Rattle.mem_node.specs.Fixture.{lone}
+use Rattle.sfs_bench.specs.Fixture.{lone}
 use Rattle.mem_node.specs.Node.{setup_of}
 use Rattle.sfs_bench.proofs.vote.vote_on_reads.Given as goal
 

@@ -1,4 +1,4 @@
-use Rattle.std.proofs.Common.{◌≡◌, ◌≤◌, ◌+◌, ◌^◌, ℕ, false, List, [], ◌∷◌, ◌++◌, length, Some, Err, refl, sym, ap, subst, ◌∙◌, arith}
+use Rattle.std.proofs.Common.{◌≡◌, ◌≤◌, ◌+◌, ◌^◌, ℕ, false, List, [], ◌∷◌, ◌++◌, length, Some, Err, refl, sym, ap, subst, ◌∙◌}
 use Rattle.std.proofs.lemmas.Result.{err_from_is_err_and}
 use Rattle.gate_log.specs.declared.log_fault.LogFault.TheVariants as log
 use Rattle.gate_log.specs.Log.{IsLog, end_of}
@@ -34,7 +34,7 @@ returns-in-Err-clause-handled g c =
     rw c.from.ensures (log_refused g.D.Disk.tells g.D.Disk.history g.D.Disk.health own _ e fault c.reserve.ensures.setup c.reserve.ensures.state c.by-self.ensures
     c.requires.running c.in-Err.ensures.not_damaged
     (λ image bytes sound. append_leaves g.D.Disk.tells g.D.Disk.history g.D.Disk.health own.memory.setup own.log image bytes (state_of own.memory) small sound e
-    (g.D.Disk.history c.append.new.self.disk) own.log.extent.base c.deref.result.now own.based is (c.append.ensures.any_moment bytes sound.logged))
+    (g.D.Disk.history c.append.new.self.disk) c.deref.result.now is (c.append.ensures.any_moment bytes sound.logged))
     (λ same. second (λ was. both_ways own.log.failed was fine) (c.append.ensures.failed (c.in-Err.is ∙ ap Err same)))
     (λ same. subst (λ (b : List ℕ). 2 ^ 32 ≤ end_of own.log + 5 + length b) is (c.append.ensures.full.0 (c.in-Err.is ∙ ap Err same)).1)
     (λ past. let full : c.append.result ≡ Err log.Full = c.append.ensures.full.1 (fine, subst (λ (b : List ℕ). 2 ^ 32 ≤ end_of own.log + 5 + length b) (sym is) past) in same_fault c.append.result fault log.Full c.in-Err.is full)
@@ -54,9 +54,9 @@ returns-clause-handled g c =
     log_took g.D.Disk.tells g.D.Disk.history g.D.Disk.health own _ e c.args.answer (c.settle.ensures.setup ∙ c.reserve.ensures.setup)
     (c.settle.ensures.state ∙ ap (λ (t : State). after_entry t e) c.reserve.ensures.state) c.requires.running
     (λ image bytes sound. append_sound g.D.Disk.tells g.D.Disk.history g.D.Disk.health own.memory.setup own.log image bytes (state_of own.memory) small sound e
-    c.append.new.self own.log.extent.base c.deref.result.now own.based is (c.append.ensures.base ∙ own.based) (logged bytes sound.logged)
+    c.append.new.self c.deref.result.now is c.append.ensures.base (logged bytes sound.logged)
     (c.append.ensures.any_moment bytes sound.logged) back c.requires.fit)
     (λ image bytes sound. append_leaves g.D.Disk.tells g.D.Disk.history g.D.Disk.health own.memory.setup own.log image bytes (state_of own.memory) small sound e
-    (g.D.Disk.history c.append.new.self.disk) own.log.extent.base c.deref.result.now own.based is (c.append.ensures.any_moment bytes sound.logged))
+    (g.D.Disk.history c.append.new.self.disk) c.deref.result.now is (c.append.ensures.any_moment bytes sound.logged))
     (λ past. let full : c.append.result ≡ Err log.Full = c.append.ensures.full.1 (fine, subst (λ (b : List ℕ). 2 ^ 32 ≤ end_of own.log + 5 + length b) (sym is) past) in not_both c.append.result _ log.Full c.in_default.is full)
     c.append.ensures.still c.in_default.ensures.passed c.in_default.ensures.live

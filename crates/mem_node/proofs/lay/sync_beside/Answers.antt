@@ -1,7 +1,0 @@
-use Rattle.disk_model.specs.Health.{Speaks}
-use Rattle.mem_node.proofs.LayLemmas.{sync_moments}
-use Rattle.mem_node.proofs.lay.sync_beside.Goals as goal
-
-pub returns-clause-any_moment : goal.returns-clause-any_moment
-returns-clause-any_moment g c told unmarked =
-    sync_moments (Speaks g.D.Disk.tells g.D.Disk.health c.args.disk.now) c.sync.result (g.D.Disk.history c.args.disk.now) (g.D.Disk.history c.sync.new.self) told unmarked c.sync.ensures.ok c.sync.ensures.err

@@ -1,0 +1,4 @@
+pub mod HeaderLemmas
+pub mod LayLemmas
+pub mod FreshNodeLemmas
+pub mod FormatLemmas

@@ -1,0 +1,4 @@
+pub mod Header
+pub mod Half
+pub mod Format
+pub mod Lay

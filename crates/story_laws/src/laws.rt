@@ -1,0 +1,24 @@
+//! Laws of the story of a cluster.
+ghost use Rattle.story_laws.specs.Casts.{CastsAreTheEntries};
+ghost use Rattle.story_laws.specs.Growth.{StepsOnlyAdd, ChangesAreGranted};
+ghost use Rattle.story_laws.specs.Identifiers.{IdentifiersAreBegunOnce};
+
+/// Each step only adds to what was begun, logged, posted, committed, cast and refused, and makes one point at most.
+pub fn steps_only_add()
+    ensures { StepsOnlyAdd }
+{}
+
+/// No identifier is begun twice, whatever crashes and starts, where each start of a node has a new boot number.
+pub fn identifiers_are_begun_once()
+    ensures { IdentifiersAreBegunOnce }
+{}
+
+/// Each change in the history has a Granted entry of each of its participants, for ever.
+pub fn changes_are_granted()
+    ensures { ChangesAreGranted }
+{}
+
+/// Each memory node has cast the votes of its Granted entries, in their order and each once.
+pub fn casts_are_the_entries()
+    ensures { CastsAreTheEntries }
+{}

@@ -1,0 +1,11 @@
+//! What holds of the story of a cluster.
+//!
+//! There is no code here: `specs/` has the statements over the story and its steps ([`story_rules`]), and each
+//! function below has one law as its contract (`docs/PROMISES.md`, "The story of a cluster").
+#![tactic(auto)]
+
+mod laws;
+
+pub use laws::{
+    casts_are_the_entries, changes_are_granted, identifiers_are_begun_once, steps_only_add,
+};
