@@ -44,7 +44,7 @@ fn is_block(geometry: &Geometry, at: Reference) -> bool
 
 // Whether a bit of a map is 1.
 #[tactic(auto, unfolding(fs_bitmap::specs::Bits::has_bit))]
-fn is_marked(map: &[u8], bit: u32) -> bool
+pub(crate) fn is_marked(map: &[u8], bit: u32) -> bool
     requires { bit < 8 * length map.now }
     ensures { result ≡ is_used map.now bit }
 {
