@@ -36,5 +36,6 @@ mod tree_fault;
 
 pub use file::read_file;
 pub use laws::{files_take_theirs, marks_tell_owners, shown_files_are_read};
+pub use marks::is_marked;
 pub use tree::read_tree;
 pub use tree_fault::TreeFault;
