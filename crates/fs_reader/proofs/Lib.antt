@@ -7,3 +7,6 @@ pub mod LinkLemmas
 pub mod FileLemmas
 pub mod OwnerLemmas
 pub mod ShownLemmas
+pub mod MapLemmas
+pub mod NumberLemmas
+pub mod TreeLemmas

@@ -22,7 +22,7 @@ use Rattle.fs_reader.specs.Walk.{next_in, reference_in, chain_at, places}
 
 -- ---- what a chaining block tells
 
-one_reference : (r : Option Reference) → references_words (r ∷ []) ≡ reference_words r
+pub one_reference : (r : Option Reference) → references_words (r ∷ []) ≡ reference_words r
 one_reference r = references-cons r [] ∙ ap (λ ws. reference_words r ++ ws) references_none ∙ append_none (reference_words r)
   where
     append_none : (xs : List ℕ) → xs ++ [] ≡ xs

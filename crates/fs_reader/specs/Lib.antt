@@ -6,3 +6,4 @@ pub mod Sizes
 pub mod Links
 pub mod Trees
 pub mod Shown
+pub mod Numbers

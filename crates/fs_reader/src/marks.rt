@@ -42,9 +42,9 @@ fn is_block(geometry: &Geometry, at: Reference) -> bool
     at.memory < geometry.memories && at.block < geometry.blocks
 }
 
-// Whether a bit of a map is 1.
+/// Whether a bit of a map is 1.
 #[tactic(auto, unfolding(fs_bitmap::specs::Bits::has_bit))]
-fn is_marked(map: &[u8], bit: u32) -> bool
+pub fn is_marked(map: &[u8], bit: u32) -> bool
     requires { bit < 8 * length map.now }
     ensures { result ≡ is_used map.now bit }
 {

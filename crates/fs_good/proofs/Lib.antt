@@ -1,0 +1,4 @@
+pub mod LoopLemmas
+pub mod CountLemmas
+pub mod ReachedLemmas
+pub mod GoodLemmas
