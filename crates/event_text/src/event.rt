@@ -22,28 +22,50 @@ pub enum Event {
     },
     /// Message `k` is handled by its receiver. With a stop, that is a memory node, which stops just after so many of
     /// its writes and syncs.
-    Deliver { k: u64, stop: Option<u32> },
+    Deliver {
+        k: u64,
+        stop: Option<u32>,
+    },
     /// So many times the least message that is neither delivered nor lost is delivered, if there is one.
-    Drain { count: u32 },
+    Drain {
+        count: u32,
+    },
     /// Message `k` is left out by drains.
-    Lose { k: u64 },
+    Lose {
+        k: u64,
+    },
     /// A node ends what it runs, or the manager its backup.
-    GiveUp { who: Actor },
+    GiveUp {
+        who: Actor,
+    },
     /// A node or the manager posts its unanswered messages again.
-    Resend { who: Actor },
+    Resend {
+        who: Actor,
+    },
     /// An actor loses all that is not on its disk.
-    Crash { who: Actor },
+    Crash {
+        who: Actor,
+    },
     /// An actor starts from its disk. Of a memory node's disk the choice says what it holds; others take
     /// [`StartChoice::Old`].
-    Start { who: Actor, choice: StartChoice },
+    Start {
+        who: Actor,
+        choice: StartChoice,
+    },
     /// The manager asks a memory node what it keeps.
-    Sweep { memory: u32 },
+    Sweep {
+        memory: u32,
+    },
     /// A memory node writes a checkpoint.
-    Checkpoint { memory: u32 },
+    Checkpoint {
+        memory: u32,
+    },
     /// A backup begins.
     Backup,
     /// The archive of a backup is read and mounted.
-    Show { number: u32 },
+    Show {
+        number: u32,
+    },
     /// The schedule ends.
     End,
 }

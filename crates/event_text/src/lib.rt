@@ -15,12 +15,12 @@ mod reading;
 mod start_choice;
 mod writing;
 
+pub use controls::actor_of;
 pub use event::Event;
 pub use laws::{events_are_lines, events_are_read_exactly, events_have_their_own_spellings};
 pub use line_words::{LineFault, MAX_DATAGRAM_BYTES, MAX_LINE_BYTES, MAX_LINES};
 pub use mini_tx::Actor;
 pub use reading::{event_of, read_line, read_told};
-pub use controls::actor_of;
 pub use sfs_base::{Bytes, NoMemory};
 pub use start_choice::StartChoice;
 pub use writing::{append_line, write_line};

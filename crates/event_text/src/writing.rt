@@ -146,8 +146,14 @@ fn append_crash(out: &mut Vec<u8>, who: Actor) -> Result<(), NoMemory>
 {
     let name = Word::Name(names::CRASH);
     match who {
-        Actor::Node(n) => append_words(out, &[name, Word::Name(names::NODE), Word::Number(u64::from(n))]),
-        Actor::Memory(m) => append_words(out, &[name, Word::Name(names::MEMORY), Word::Number(u64::from(m))]),
+        Actor::Node(n) => append_words(
+            out,
+            &[name, Word::Name(names::NODE), Word::Number(u64::from(n))],
+        ),
+        Actor::Memory(m) => append_words(
+            out,
+            &[name, Word::Name(names::MEMORY), Word::Number(u64::from(m))],
+        ),
         Actor::Manager => append_words(out, &[name, Word::Name(names::MANAGER)]),
     }
 }
@@ -159,7 +165,10 @@ fn append_start(out: &mut Vec<u8>, who: Actor, choice: StartChoice) -> Result<()
 {
     let name = Word::Name(names::START);
     match who {
-        Actor::Node(n) => append_words(out, &[name, Word::Name(names::NODE), Word::Number(u64::from(n))]),
+        Actor::Node(n) => append_words(
+            out,
+            &[name, Word::Name(names::NODE), Word::Number(u64::from(n))],
+        ),
         Actor::Memory(m) => append_memory_start(out, m, choice),
         Actor::Manager => append_words(out, &[name, Word::Name(names::MANAGER)]),
     }
@@ -176,6 +185,9 @@ fn append_memory_start(out: &mut Vec<u8>, m: u32, choice: StartChoice) -> Result
     match choice {
         StartChoice::Old => append_words(out, &[name, kind, m, Word::Name(names::OLD)]),
         StartChoice::New => append_words(out, &[name, kind, m, Word::Name(names::NEW)]),
-        StartChoice::Fill(byte) => append_words(out, &[name, kind, m, Word::Name(names::FILL), Word::Hex(&[byte])]),
+        StartChoice::Fill(byte) => append_words(
+            out,
+            &[name, kind, m, Word::Name(names::FILL), Word::Hex(&[byte])],
+        ),
     }
 }
