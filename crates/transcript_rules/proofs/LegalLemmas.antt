@@ -1,12 +1,7 @@
 -- Legal transcripts: what they begin with, and how they end.
-use Rattle.std.proofs.Common.{◌≡◌, ℕ, true, false, List, [], ◌∷◌, ◌++◌, Some, refl, sym, ◌∙◌}
-use Rattle.event_text.specs.declared.event.Event.TheVariants as event
-use Rattle.line_text.specs.declared.line.Line.{Line}
-use Rattle.line_text.specs.declared.line.Line.TheVariants as line
-use Rattle.transcript_rules.specs.Opening.{Opening, Schedule}
-use Rattle.transcript_rules.specs.Book.{Book}
+use Rattle.std.proofs.Common.{[], ◌∷◌, refl}
 use Rattle.transcript_rules.specs.Next.{noted, told, next_in, may_come}
-use Rattle.transcript_rules.specs.Legal.{IsAllowed, IsLegalFrom}
+use Rattle.transcript_rules.specs.Legal.{IsLegalFrom}
 use Rattle.transcript_rules.specs.Laws.{PrefixesAreLegal, NothingFollowsTheEnd, TheEndAloneIsLegal}
 
 pub prefixes : PrefixesAreLegal

@@ -1,5 +1,5 @@
 -- What the lines of a transcript tell, read one after another. Nothing here judges a line.
-use Rattle.std.specs.Prelude.{ℕ, zero, suc, ◌+◌, ◌-◌, ◌==◌, nat_lt, Bool, true, false, ◌&&◌, ◌||◌, not, if◌then◌else◌, List, [], ◌∷◌, ◌++◌, length, slice_get, count_by, Option, Some, None, option_map, option_and_then}
+use Rattle.std.specs.Prelude.{ℕ, zero, suc, ◌+◌, ◌-◌, ◌==◌, Bool, true, false, ◌&&◌, not, if◌then◌else◌, List, [], ◌∷◌, length, slice_get, count_by, Option, Some, None, option_and_then}
 use Rattle.std.specs.List.{list_any}
 use Rattle.std.specs.Option.{option_map_or}
 use Rattle.nfs_proto.specs.declared.stamp.Stamp.{Stamp}
@@ -10,9 +10,6 @@ use Rattle.nfs_service.specs.Reply.{heard, Effect, effect}
 use Rattle.event_text.specs.declared.event.Event.{Event}
 use Rattle.event_text.specs.declared.event.Event.TheVariants as event
 use Rattle.line_text.specs.declared.line.Line.{Line}
-use Rattle.line_text.specs.declared.line.Line.TheVariants as line
-use Rattle.line_text.specs.declared.retry_why.RetryWhy.{RetryWhy}
-use Rattle.line_text.specs.declared.retry_why.RetryWhy.TheVariants as retry
 use Rattle.line_text.specs.declared.sent_kind.SentKind.{SentKind}
 use Rattle.transcript_rules.specs.Opening.{Opening}
 

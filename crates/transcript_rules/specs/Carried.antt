@@ -1,5 +1,5 @@
 -- Carried: each change and each reply rests on messages that were delivered.
-use Rattle.std.specs.Prelude.{◌≡◌, ℕ, ◌-◌, ◌/◌, ◌%◌, ◌<◌, ◌==◌, nat_lt, take, drop, Bool, true, false, ◌&&◌, ◌||◌, not, if◌then◌else◌, List, [], ◌∷◌, Option, Some, None, ◌⊎◌}
+use Rattle.std.specs.Prelude.{◌≡◌, ℕ, ◌-◌, ◌/◌, ◌%◌, ◌<◌, ◌==◌, nat_lt, take, drop, Bool, true, false, ◌&&◌, not, if◌then◌else◌, List, [], ◌∷◌, Option, Some, None, ◌⊎◌}
 use Rattle.std.specs.List.{list_any, list_all}
 use Rattle.std.specs.Int.{w32, from_be_bytes}
 use Rattle.std.specs.Option.{option_map_or}
@@ -8,7 +8,7 @@ use Rattle.fs_rules.specs.Handle.{handle, number_in}
 use Rattle.fs_rules.specs.Arguments.{handles_of}
 use Rattle.std.specs.Str.{bytes_eq}
 use Rattle.mini_tx.specs.declared.actor.Actor.{Actor}
-use Rattle.mini_tx.specs.declared.actor.Actor.TheVariants.{Node, Memory, Manager}
+use Rattle.mini_tx.specs.declared.actor.Actor.TheVariants.{Node, Memory}
 use Rattle.nfs_service.specs.declared.request.Request.{Request}
 use Rattle.nfs_service.specs.declared.request.Request.TheVariants as request
 use Rattle.nfs_service.specs.Reply.{heard}
@@ -19,7 +19,7 @@ use Rattle.line_text.specs.declared.line.Line.TheVariants as line
 use Rattle.line_text.specs.declared.sent_kind.SentKind.{SentKind}
 use Rattle.line_text.specs.declared.sent_kind.SentKind.TheVariants as sent
 use Rattle.transcript_rules.specs.Opening.{Opening}
-use Rattle.transcript_rules.specs.Book.{Book, Arrival, Post, Delivery, numbered, is_actor, handled_now}
+use Rattle.transcript_rules.specs.Book.{Book, Arrival, Post, numbered, is_actor, handled_now}
 
 -- ---- which arrivals need the file system
 

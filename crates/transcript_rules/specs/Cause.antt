@@ -1,8 +1,7 @@
 -- Cause: why an arrival or a backup ends without what was asked for.
-use Rattle.std.specs.Prelude.{◌≡◌, ℕ, ◌+◌, ◌≤◌, ◌<◌, ◌==◌, nat_lt, nat_le, Bool, true, false, ◌&&◌, ◌||◌, not, if◌then◌else◌, List, [], ◌∷◌, length, count_by, Option, Some, None, ◌⊎◌}
+use Rattle.std.specs.Prelude.{◌≡◌, ℕ, ◌+◌, ◌≤◌, ◌==◌, nat_lt, Bool, true, false, ◌&&◌, if◌then◌else◌, List, [], ◌∷◌, count_by, Some, ◌⊎◌}
 use Rattle.std.specs.List.{list_any}
 use Rattle.std.specs.Option.{option_map_or}
-use Rattle.mini_tx.specs.declared.actor.Actor.{Actor}
 use Rattle.mini_tx.specs.declared.actor.Actor.TheVariants.{Node, Memory, Manager}
 use Rattle.nfs_service.specs.declared.request.Request.TheVariants as request
 use Rattle.nfs_service.specs.Reply.{heard}

@@ -1,5 +1,5 @@
 -- What holds of legal transcripts.
-use Rattle.std.specs.Prelude.{ℕ, List, [], ◌∷◌, ◌++◌, Some}
+use Rattle.std.specs.Prelude.{List, [], ◌∷◌, ◌++◌, Some}
 use Rattle.event_text.specs.declared.event.Event.TheVariants as event
 use Rattle.line_text.specs.declared.line.Line.{Line}
 use Rattle.line_text.specs.declared.line.Line.TheVariants as line

@@ -6,7 +6,7 @@ use Rattle.line_text.specs.declared.line.Line.TheVariants as line
 use Rattle.line_text.specs.Grammar.{spelling_of_line}
 use Rattle.transcript_rules.specs.Opening.{Opening, Schedule, cluster_of, fresh_opening}
 use Rattle.transcript_rules.specs.Book.{Book, opened}
-use Rattle.transcript_rules.specs.Next.{noted, book_after}
+use Rattle.transcript_rules.specs.Next.{noted}
 use Rattle.transcript_rules.specs.Truth.{IsTrueLine}
 use Rattle.transcript_rules.specs.Carried.{IsCarried}
 use Rattle.transcript_rules.specs.Cause.{HasItsCause}

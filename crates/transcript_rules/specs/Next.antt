@@ -1,5 +1,5 @@
 -- Which event comes next by the schedule, and what one line more makes of the book.
-use Rattle.std.specs.Prelude.{ℕ, zero, suc, ◌+◌, ◌-◌, ◌^◌, ◌==◌, nat_lt, nat_le, Bool, true, false, ◌&&◌, ◌||◌, not, if◌then◌else◌, List, [], ◌∷◌, ◌++◌, length, drop, Option, Some, None, option_and_then, is_some}
+use Rattle.std.specs.Prelude.{ℕ, ◌+◌, ◌-◌, ◌^◌, ◌==◌, nat_lt, nat_le, Bool, true, false, ◌&&◌, ◌||◌, not, if◌then◌else◌, List, [], ◌∷◌, ◌++◌, length, drop, Option, Some, None, option_and_then, is_some}
 use Rattle.std.specs.List.{list_any}
 use Rattle.std.specs.Option.{option_map_or}
 use Rattle.fs_rules.specs.declared.geometry.Geometry.{Geometry}
@@ -13,7 +13,7 @@ use Rattle.line_text.specs.declared.line.Line.TheVariants as line
 use Rattle.line_text.specs.declared.retry_why.RetryWhy.{RetryWhy}
 use Rattle.line_text.specs.declared.retry_why.RetryWhy.TheVariants as retry
 use Rattle.transcript_rules.specs.Opening.{Opening, Schedule}
-use Rattle.transcript_rules.specs.Book.{Book, Arrival, Ended, Replied, Dropped, Retried, GivenUp, Post, Delivery, Backup, numbered, with_numbered, is_actor, is_up, life_of, points_of, tree_at, running_at, response, running_backup}
+use Rattle.transcript_rules.specs.Book.{Book, Ended, Replied, Dropped, Retried, GivenUp, Post, Backup, numbered, with_numbered, is_actor, is_up, life_of, points_of, tree_at, running_at, response, running_backup}
 
 -- ---- whether an event may come
 

@@ -1,5 +1,5 @@
 -- Where a transcript begins.
-use Rattle.std.specs.Prelude.{ℕ, List, [], ◌∷◌, map, Option, Some, None, if◌then◌else◌, option_map}
+use Rattle.std.specs.Prelude.{List, [], ◌∷◌, Option, Some, None, if◌then◌else◌}
 use Rattle.fs_rules.specs.declared.geometry.Geometry.{Geometry}
 use Rattle.fs_rules.specs.Geometry.{within_limits}
 use Rattle.fs_rules.specs.declared.plain_tree.PlainTree.{PlainTree}

@@ -1,11 +1,9 @@
 -- Place: which lines stand under which events, and in which order.
-use Rattle.std.specs.Prelude.{◌≡◌, ◌≢◌, ℕ, ◌+◌, ◌≤◌, ◌<◌, ◌==◌, nat_lt, nat_le, Bool, true, false, ◌&&◌, ◌||◌, not, if◌then◌else◌, List, [], ◌∷◌, length, Option, Some, None, option_and_then, is_some}
+use Rattle.std.specs.Prelude.{◌≡◌, ◌≢◌, ℕ, ◌+◌, nat_lt, nat_le, Bool, true, false, ◌&&◌, ◌||◌, not, if◌then◌else◌, List, [], length, Option, Some, None, is_some}
 use Rattle.std.specs.List.{list_any, list_all}
 use Rattle.std.specs.Option.{option_map_or}
 use Rattle.mini_tx.specs.declared.actor.Actor.{Actor}
 use Rattle.mini_tx.specs.declared.actor.Actor.TheVariants.{Node, Memory, Manager}
-use Rattle.nfs_service.specs.declared.request.Request.{Request}
-use Rattle.nfs_service.specs.declared.request.Request.TheVariants as request
 use Rattle.nfs_service.specs.Reply.{heard}
 use Rattle.event_text.specs.declared.event.Event.{Event}
 use Rattle.event_text.specs.declared.event.Event.TheVariants as event
@@ -14,7 +12,7 @@ use Rattle.line_text.specs.declared.line.Line.TheVariants as line
 use Rattle.line_text.specs.declared.sent_kind.SentKind.{SentKind}
 use Rattle.line_text.specs.declared.sent_kind.SentKind.TheVariants as sent
 use Rattle.transcript_rules.specs.Opening.{Opening, Schedule}
-use Rattle.transcript_rules.specs.Book.{Book, Arrival, Post, numbered, is_actor, is_up, delivered_now, handled_now}
+use Rattle.transcript_rules.specs.Book.{Book, Post, numbered, is_actor, is_up, delivered_now, handled_now}
 use Rattle.transcript_rules.specs.Next.{next, is_memory}
 use Rattle.transcript_rules.specs.Truth.{is_mounting_line}
 use Rattle.transcript_rules.specs.Carried.{needs_files, is_granted}

@@ -2,16 +2,15 @@
 use Rattle.std.specs.Prelude.{◌≡◌, ◌≢◌, ℕ, ◌+◌, ◌-◌, ◌≤◌, ◌<◌, Bool, true, false, List, [], ◌∷◌, length, Option, Some, None}
 use Rattle.std.specs.List.{list_any}
 use Rattle.fs_rules.specs.declared.plain_tree.PlainTree.{PlainTree}
-use Rattle.mini_tx.specs.declared.actor.Actor.TheVariants.{Node, Memory, Manager}
+use Rattle.mini_tx.specs.declared.actor.Actor.TheVariants.{Node}
 use Rattle.nfs_service.specs.Reply.{Effect}
 use Rattle.event_text.specs.declared.event.Event.TheVariants as event
 use Rattle.line_text.specs.declared.drop_why.DropWhy.{DropWhy}
 use Rattle.line_text.specs.declared.drop_why.DropWhy.TheVariants as drop
-use Rattle.line_text.specs.declared.down_why.DownWhy.{DownWhy}
 use Rattle.line_text.specs.declared.down_why.DownWhy.TheVariants as down
 use Rattle.line_text.specs.declared.line.Line.{Line}
 use Rattle.line_text.specs.declared.line.Line.TheVariants as line
-use Rattle.transcript_rules.specs.Book.{Book, Arrival, Ended, Replied, Dropped, Retried, GivenUp, Backup, numbered, points_of, tree_at, response, is_up, life_of, running_at, running_backup}
+use Rattle.transcript_rules.specs.Book.{Book, Arrival, Ended, GivenUp, Backup, numbered, points_of, tree_at, response, life_of, running_at, running_backup}
 use Rattle.transcript_rules.specs.Next.{listing_of}
 
 -- the arrival has not ended, or its node was told to give it up
