@@ -26,7 +26,6 @@ use Rattle.sfs.specs.Reply.{heard, Effect, effect}
 use Rattle.sfs.specs.Outcome.{ComesTo, points_after}
 use Rattle.sfs.specs.Book.{Book, Arrival, numbered, point_of, may_come, come_from, next_event, response, with_arrival, with_point, noted, book_after}
 use Rattle.sfs.specs.Legal.{IsRunning, Arrives, Changes, Replies, Drops, HoldsAt, IsAllowed, IsLegalFrom}
-use Rattle.sfs.specs.Completes.{reached}
 use Rattle.sfs.specs.World.{Stands, GoesOn, closing, change_lines, arrival_lines}
 
 -- ---- the next event

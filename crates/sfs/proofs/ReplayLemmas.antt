@@ -1,10 +1,8 @@
 -- The turns of a replay: what each of them makes of the transcript.
-use Rattle.std.proofs.Common.{◌≡◌, ℕ, ◌+◌, ◌-◌, ◌^◌, ◌<◌, ◌≤◌, Bool, true, false, cond, ◌&&◌, ltb, List, [], ◌∷◌, ◌++◌, length, map, Option, Some, None, Ok, Err, refl, sym, ap, subst, ◌∙◌, append_assoc, arith}
-use Rattle.std.specs.Prelude.{slice_get, drop, option_and_then, count_by, ◌==◌}
-use Rattle.std.specs.Option.{option_map_or}
+use Rattle.std.proofs.Common.{◌≡◌, ℕ, zero, suc, ◌+◌, ◌<◌, ◌≤◌, Bool, true, false, cond, ◌&&◌, ltb, List, [], ◌∷◌, ◌++◌, length, map, Option, Some, None, Ok, Err, refl, sym, ap, subst, ◌∙◌, append_assoc, arith}
+use Rattle.std.specs.Prelude.{slice_get, option_and_then, ◌==◌}
 use Rattle.std.specs.List.{AllByRecursion}
 use Rattle.std.proofs.lemmas.Bool.{le-ltb}
-use Rattle.std.proofs.lemmas.Bool.Decides.{Decides-ltb}
 use Rattle.std.proofs.lemmas.List.{append-nil, length-map, length_push, map-append}
 use Rattle.std.proofs.lemmas.List.Sums.{sum_by-append}
 use Rattle.fs_rules.specs.declared.geometry.Geometry.{Geometry}
@@ -27,11 +25,10 @@ use Rattle.sfs.specs.Lines.{IsOneLine}
 use Rattle.sfs.specs.Output.{WritesFront}
 use Rattle.sfs.specs.Schedule.{Schedule, event_in, schedule_of, cluster_of}
 use Rattle.sfs.specs.ScheduleReader.{unlines, HasRead, IsNoEvent, NoneFollows, FailsAfter, ReadsEvent}
-use Rattle.sfs.specs.Completes.{reached, reaches}
 use Rattle.sfs.specs.Book.{Book, come_from, next_event, opened, noted, book_after}
 use Rattle.sfs.specs.Legal.{IsAllowed, IsLegal, IsLegalFrom, text_of}
-use Rattle.sfs.specs.World.{Stands, GoesOn, Steps, Tells, is_do}
-use Rattle.sfs.specs.Replay.{Counts, CountsWrites, Follows, Stood, Finishes, FailsToRead, BreaksOff, Stopped, OfSchedule, book_of, line_ends}
+use Rattle.sfs.specs.World.{Stands, GoesOn, Steps}
+use Rattle.sfs.specs.Replay.{Counts, CountsWrites, Follows, Stood, Finishes, FailsToRead, BreaksOff, Stopped, OfSchedule, AreAllUnder, book_of, line_ends}
 use Rattle.sfs.proofs.BookLemmas.{book_after-append, legal-append, text-append}
 use Rattle.sfs.proofs.ScheduleLemmas.{told_lines, get_behind}
 
@@ -54,25 +51,6 @@ one_more done l e behind says =
     sym (ap (λ (s : Schedule). s ++ behind) (map-append event_in done (l ∷ [])) ∙ append_assoc (map event_in done) (event_in l ∷ []) behind
     ∙ ap (λ (o : Option Event). map event_in done ++ o ∷ behind) says)
 
--- ---- the test of the lines behind
-
-is_within : (n : ℕ) → n < MAX_LINES → ltb n MAX_LINES ≡ true
-is_within n within = (Decides-ltb n MAX_LINES).1 within
-
-test_of : (g : Geometry) (n : ℕ) (e : Event) (behind : Schedule) (b : Bool) → n < MAX_LINES → reached g e (reaches g (n + 1) behind) ≡ b → reaches g n (Some e ∷ behind) ≡ b
-unfolding reaches
-test_of g n e behind b within is = ap (λ t. t && reached g e (reaches g (n + 1) behind)) (is_within n within) ∙ is
-
--- no line is reached behind the limit
-test_beyond : (g : Geometry) (n : ℕ) (behind : Schedule) → MAX_LINES ≤ n → reaches g n behind ≡ false
-unfolding reaches
-test_beyond g n [] beyond = refl
-test_beyond g n (None ∷ behind) beyond = refl
-test_beyond g n (Some e ∷ behind) beyond = ap (λ t. t && reached g e (reaches g (n + 1) behind)) (le-ltb n MAX_LINES beyond)
-
-some_is : {X : Type 0} (x y : X) → Some x ≡ Some y → x ≡ y
-some_is x y same = grind (arith, same)
-
 -- ---- the last line of a transcript
 
 last_is_legal : (schedule : Schedule) (lines : List Line) (last : Line) → IsLegal schedule lines → IsAllowed schedule (book_of schedule lines) last → IsLegal schedule (lines ++ last ∷ [])
@@ -80,27 +58,16 @@ unfolding IsLegalFrom
 last_is_legal schedule lines last legal allowed = legal-append schedule (opened schedule) lines (last ∷ []) legal (allowed, tt)
 
 -- `end`
-pub ends : (schedule behind : Schedule) (count : ℕ) (e : Event) (lines : List Line) (w : World) → Follows schedule count (Some e ∷ behind) lines w → count < MAX_LINES
-    → next_event schedule (book_of schedule lines) ≡ Some event.End → ((b : Bool) → reached w.tree.geometry e b ≡ true) → Finishes schedule lines line.End true
-ends schedule behind count e lines w f within next tells = record {
-  legal = last_is_legal schedule lines line.End f.legal (record { rest = f.stands.rest; event = next });
-  test = f.test ∙ test_of w.tree.geometry count e behind true within (tells (reaches w.tree.geometry (count + 1) behind));
-}
+pub ends : (schedule : Schedule) (count : ℕ) (lines : List Line) (w : World) → Follows schedule count lines w
+    → next_event schedule (book_of schedule lines) ≡ Some event.End → Finishes schedule lines line.End
+ends schedule count lines w f next = last_is_legal schedule lines line.End f.legal (record { rest = f.stands.rest; event = next })
 
 -- `refused N`
-refuses : (schedule behind : Schedule) (count : ℕ) (lines : List Line) (w : World) → Follows schedule count behind lines w
-    → next_event schedule (book_of schedule lines) ≡ None → reaches w.tree.geometry count behind ≡ false → Finishes schedule lines (line.Refused (count + 1)) false
-refuses schedule behind count lines w f next test = record {
-  legal = last_is_legal schedule lines (line.Refused (count + 1)) f.legal
-      (record { rest = f.stands.rest; number_is = ap (λ (n : ℕ). n + 1) (sym f.used); none = next });
-  test = f.test ∙ test;
-}
-
--- where an event may not come
-pub refuses_event : (schedule behind : Schedule) (count : ℕ) (e : Event) (lines : List Line) (w : World) → Follows schedule count (Some e ∷ behind) lines w → count < MAX_LINES
-    → next_event schedule (book_of schedule lines) ≡ None → ((b : Bool) → reached w.tree.geometry e b ≡ false) → Finishes schedule lines (line.Refused (count + 1)) false
-refuses_event schedule behind count e lines w f within next tells =
-    refuses schedule (Some e ∷ behind) count lines w f next (test_of w.tree.geometry count e behind false within (tells (reaches w.tree.geometry (count + 1) behind)))
+pub refuses : (schedule : Schedule) (count : ℕ) (lines : List Line) (w : World) → Follows schedule count lines w
+    → next_event schedule (book_of schedule lines) ≡ None → Finishes schedule lines (line.Refused (count + 1))
+refuses schedule count lines w f next =
+    last_is_legal schedule lines (line.Refused (count + 1)) f.legal
+    (record { rest = f.stands.rest; number_is = ap (λ (n : ℕ). n + 1) (sym f.used); none = next })
 
 -- where a place has no event, none comes
 none_comes : (schedule : Schedule) (book : Book) → IsNoEvent (slice_get schedule book.lines) → next_event schedule book ≡ None
@@ -130,36 +97,27 @@ none_beyond schedule book beyond = by_cluster (cluster_of schedule)
     by_cluster (Some g) = ap (λ b. cond b (option_and_then (come_from g book) (slice_get schedule book.lines)) None) (le-ltb book.lines MAX_LINES beyond)
 
 -- where no event stands behind the lines that were read
-pub refuses_none : (done : List (List ℕ)) (behind : Schedule) (lines : List Line) (w : World) → Follows (map event_in done ++ behind) (length done) behind lines w
-    → IsNoEvent (slice_get (map event_in done ++ behind) (length done)) → Finishes (map event_in done ++ behind) lines (line.Refused (length done + 1)) false
-unfolding reaches
+pub refuses_none : (done : List (List ℕ)) (behind : Schedule) (lines : List Line) (w : World) → Follows (map event_in done ++ behind) (length done) lines w
+    → IsNoEvent (slice_get (map event_in done ++ behind) (length done)) → Finishes (map event_in done ++ behind) lines (line.Refused (length done + 1))
 refuses_none done behind lines w f none =
-    refuses (map event_in done ++ behind) behind (length done) lines w f
+    refuses (map event_in done ++ behind) (length done) lines w f
     (none_comes (map event_in done ++ behind) (book_of (map event_in done ++ behind) lines) (subst (λ (n : ℕ). IsNoEvent (slice_get (map event_in done ++ behind) n)) (sym f.used) none))
-    (by_behind behind none)
-  where
-    by_behind : (rest : Schedule) → IsNoEvent (slice_get (map event_in done ++ rest) (length done)) → reaches w.tree.geometry (length done) rest ≡ false
-    by_behind [] h = refl
-    by_behind (None ∷ rest) h = refl
-    by_behind (Some e ∷ rest) h = absurd (subst IsNoEvent (place_behind done (Some e) rest) h)
 
 -- where the limit of lines is reached
-pub refuses_beyond : (schedule behind : Schedule) (count : ℕ) (lines : List Line) (w : World) → Follows schedule count behind lines w → MAX_LINES ≤ count
-    → Finishes schedule lines (line.Refused (count + 1)) false
-refuses_beyond schedule behind count lines w f beyond =
-    refuses schedule behind count lines w f (none_beyond schedule (book_of schedule lines) (omega (arith, beyond, f.used))) (test_beyond w.tree.geometry count behind beyond)
+pub refuses_beyond : (schedule : Schedule) (count : ℕ) (lines : List Line) (w : World) → Follows schedule count lines w → MAX_LINES ≤ count
+    → Finishes schedule lines (line.Refused (count + 1))
+refuses_beyond schedule count lines w f beyond =
+    refuses schedule count lines w f (none_beyond schedule (book_of schedule lines) (omega (arith, beyond, f.used)))
 
 -- where the schedule begins with no cluster
-pub refuses_first : (schedule : Schedule) → cluster_of schedule ≡ None → Finishes schedule [] (line.Refused 1) false
+pub refuses_first : (schedule : Schedule) → cluster_of schedule ≡ None → Finishes schedule [] (line.Refused 1)
 unfolding book_after next_event IsLegalFrom
-refuses_first schedule none = record {
-  legal = last_is_legal schedule [] (line.Refused 1) tt (record {
-    rest = record { ongoing = ap (λ (b : Book). b.closed) at_first; ended = ap (λ (b : Book). length b.ended) at_first ∙ sym (ap (λ (b : Book). length b.arrivals) at_first) };
-    number_is = ap (λ (b : Book). b.lines + 1) (sym at_first);
-    none = ap (option_and_then _) none;
-  });
-  test = ap (λ c. option_map_or (λ g. reaches g 1 (drop 1 schedule)) c false) none;
-}
+refuses_first schedule none =
+    last_is_legal schedule [] (line.Refused 1) tt (record {
+      rest = record { ongoing = ap (λ (b : Book). b.closed) at_first; ended = ap (λ (b : Book). length b.ended) at_first ∙ sym (ap (λ (b : Book). length b.arrivals) at_first) };
+      number_is = ap (λ (b : Book). b.lines + 1) (sym at_first);
+      none = ap (option_and_then _) none;
+    })
   where
     at_first : opened schedule ≡ record { lines = 0; arrivals = []; points = []; trees = []; ended = []; closed = false }
     at_first = ap (λ c. Rattle.sfs.specs.Book.opened_at c) none
@@ -167,18 +125,16 @@ refuses_first schedule none = record {
 -- ---- one event handled
 
 -- its lines are legal behind the others
-pub more_legal : (schedule behind : Schedule) (count : ℕ) (lines more : List Line) (w after : World) → Follows schedule count behind lines w
+pub more_legal : (schedule : Schedule) (count : ℕ) (lines more : List Line) (w after : World) → Follows schedule count lines w
     → GoesOn schedule (book_of schedule lines) after more → IsLegal schedule (lines ++ more)
-more_legal schedule behind count lines more w after f goes = legal-append schedule (opened schedule) lines more f.legal goes.legal
+more_legal schedule count lines more w after f goes = legal-append schedule (opened schedule) lines more f.legal goes.legal
 
-pub goes_on : (schedule behind : Schedule) (count : ℕ) (e : Event) (lines more : List Line) (w after : World) → Follows schedule count (Some e ∷ behind) lines w → count < MAX_LINES
-    → GoesOn schedule (book_of schedule lines) after more → ((b : Bool) → reached w.tree.geometry e b ≡ b) → Follows schedule (count + 1) behind (lines ++ more) after
-goes_on schedule behind count e lines more w after f within goes tells = record {
-  legal = more_legal schedule (Some e ∷ behind) count lines more w after f goes;
+pub goes_on : (schedule : Schedule) (count : ℕ) (lines more : List Line) (w after : World) → Follows schedule count lines w
+    → GoesOn schedule (book_of schedule lines) after more → Follows schedule (count + 1) (lines ++ more) after
+goes_on schedule count lines more w after f goes = record {
+  legal = more_legal schedule count lines more w after f goes;
   stands = subst (λ (b : Book). Stands schedule b after) (sym both) goes.stands;
   used = ap (λ (b : Book). b.lines) both ∙ goes.used ∙ ap (λ (n : ℕ). n + 1) f.used;
-  test = f.test ∙ test_of w.tree.geometry count e behind (reaches w.tree.geometry (count + 1) behind) within (tells (reaches w.tree.geometry (count + 1) behind))
-      ∙ ap (λ g. reaches g (count + 1) behind) (some_is w.tree.geometry after.tree.geometry (sym f.stands.cluster ∙ goes.stands.cluster));
 }
   where
     both : book_of schedule (lines ++ more) ≡ book_after schedule (book_of schedule lines) more
@@ -205,15 +161,24 @@ ends_of_lines (l ∷ done) rest each whole =
     let end_apart = ends-append l (10 ∷ []) in
     omega (arith, apart, line_apart, end_apart, ends-append (unlines done) rest, ends_of_line l each.0, ends_of_lines done rest each.1 whole)
 
+-- so many lines end in what was taken
+ends_taken : (left now : Option (List ℕ)) (done : List (List ℕ)) → AllByRecursion IsOneLine done → (failed : FailsAfter left now done) → line_ends failed.taken ≡ length done
+ends_taken left now done each failed = ap line_ends failed.parts ∙ ends_of_lines done failed.rest each failed.unended
+
 pub fails_to_read : (left now held held' : Option (List ℕ)) (done : List (List ℕ)) (lines : List Line) → AllByRecursion IsOneLine done → FailsAfter left now done → Puts held held' (text_of lines)
-    → OfSchedule left (λ schedule. IsLegal schedule lines) → count_by is_do lines ≡ length done - 1 → FailsToRead left now held held' lines
-fails_to_read left now held held' done lines each failed put legal all = record {
+    → OfSchedule left (λ schedule. IsLegal schedule lines) → OfSchedule left (λ schedule. AreAllUnder schedule lines (length done)) → FailsToRead left now held held' lines
+fails_to_read left now held held' done lines each failed put legal whole = record {
   put = put;
   legal = legal;
   taken = failed.taken;
   takes = failed.takes;
-  all = all ∙ ap (λ (n : ℕ). n - 1) (sym (ap line_ends failed.parts ∙ ends_of_lines done failed.rest each failed.unended));
+  whole = λ text told. subst (AreAllUnder (schedule_of text) lines) (sym (ends_taken left now done each failed)) (whole text told);
 }
+
+-- all lines under those that were read were written, where at least one was
+pub all_under : (schedule : Schedule) (count : ℕ) (lines : List Line) (w : World) → Follows schedule count lines w → 1 ≤ count → AreAllUnder schedule lines count
+all_under schedule zero lines w f some = absurd (omega (arith, some))
+all_under schedule (suc count) lines w f some = record { over = f.stands.rest; behind = f.used }
 
 -- ---- the counts and what was written
 
@@ -269,18 +234,20 @@ module _ {left now held held' : Option (List ℕ)} {done : List (List ℕ)} {lin
   }
 
   pub fails : (after : Option (List ℕ)) → FailsAfter left after done → FailsToRead left after held held' lines
-  fails after failed = fails_to_read left after held held' done lines stood.read.each failed stood.put legal_so_far (omega (arith, stood.handled))
+  fails after failed =
+      fails_to_read left after held held' done lines stood.read.each failed stood.put legal_so_far
+      (of_schedule (λ schedule. AreAllUnder schedule lines (length done)) (λ behind. all_under (map event_in done ++ behind) (length done) lines p.world (stood.follows behind) stood.some))
 
-  pub none_follows : NoneFollows left done → OfSchedule left (λ schedule. Finishes schedule lines (line.Refused (length done + 1)) false)
+  pub none_follows : NoneFollows left done → OfSchedule left (λ schedule. Finishes schedule lines (line.Refused (length done + 1)))
   none_follows none text is =
       let b = goes_behind left now done p.reader text stood.read is in
-      subst (λ (s : Schedule). Finishes s lines (line.Refused (length done + 1)) false) (sym b.1)
+      subst (λ (s : Schedule). Finishes s lines (line.Refused (length done + 1))) (sym b.1)
       (refuses_none done b.0 lines p.world (stood.follows b.0) (subst (λ (s : Schedule). IsNoEvent (slice_get s (length done))) b.1 (none text is)))
 
-  pub refuses_past : MAX_LINES ≤ length done → OfSchedule left (λ schedule. Finishes schedule lines (line.Refused (length done + 1)) false)
+  pub refuses_past : MAX_LINES ≤ length done → OfSchedule left (λ schedule. Finishes schedule lines (line.Refused (length done + 1)))
   refuses_past beyond =
-      of_schedule (λ schedule. Finishes schedule lines (line.Refused (length done + 1)) false)
-      (λ behind. refuses_beyond (map event_in done ++ behind) behind (length done) lines p.world (stood.follows behind) beyond)
+      of_schedule (λ schedule. Finishes schedule lines (line.Refused (length done + 1)))
+      (λ behind. refuses_beyond (map event_in done ++ behind) (length done) lines p.world (stood.follows behind) beyond)
 
   -- reading the next event was stopped
   pub read_stopped : (after : Option (List ℕ)) (reader : ScheduleReader) (stop : Stop) → ReadsEvent left after done reader (Err stop) → Stopped left after held held' stop
@@ -294,10 +261,6 @@ module _ {left now held held' : Option (List ℕ)} {done : List (List ℕ)} {lin
   write_stopped after more counted counted' held'' ReadFault legal counts front = absurd counts
   write_stopped after more counted counted' held'' WriteFault legal counts front = (lines ++ more, record { rest = front.0; front = written lines more front.0 stood.put front.1; legal = legal })
   write_stopped after more counted counted' held'' NoMemory legal counts front = (lines ++ more, record { rest = front.0; front = written lines more front.0 stood.put front.1; legal = legal })
-
-  -- few enough arrivals came for one more
-  pub few_came : length done < MAX_LINES → p.world.arrivals < 2 ^ 32 - 1
-  few_came within = omega (arith, within, stood.counted)
 
   module _ (after : Option (List ℕ)) (l : List ℕ) (e : Event) (says : event_in l ≡ Some e) (reader : ScheduleReader) (read : HasRead left after (done ++ l ∷ []) reader) (within : length done < MAX_LINES) where
     -- the place of the event, in a schedule that goes on so
@@ -323,17 +286,16 @@ module _ {left now held held' : Option (List ℕ)} {done : List (List ℕ)} {lin
 
     -- it is handled, and its lines are written
     pub stands_on : (w : World) (more : List Line) (held'' : Option (List ℕ)) (rest : List ℕ)
-        → ((behind : Schedule) → let schedule = map event_in done ++ Some e ∷ behind in Steps schedule (book_of schedule lines) w (Ok (On more))) → Tells p.world w e (On more)
+        → ((behind : Schedule) → let schedule = map event_in done ++ Some e ∷ behind in Steps schedule (book_of schedule lines) w (Ok (On more)))
         → WritesFront held' held'' (text_of more) rest → rest ≡ [] → Stood left after held held'' (done ++ l ∷ []) (lines ++ more) (record { reader = reader; world = w })
-    stands_on w more held'' rest steps tells front none = record {
+    stands_on w more held'' rest steps front none = record {
       read = read;
       put = written_whole lines more rest stood.put front none;
       follows = λ behind.
-          subst (λ (s : Schedule). Follows s (length (done ++ l ∷ [])) behind (lines ++ more) w) (one_more done l e behind says)
-          (subst (λ (n : ℕ). Follows (map event_in done ++ Some e ∷ behind) n behind (lines ++ more) w) (sym (length_push done l))
-          (goes_on (map event_in done ++ Some e ∷ behind) behind (length done) e lines more p.world w (stood.follows (Some e ∷ behind)) within (steps behind) tells.0));
-      counted = omega (arith, stood.counted, tells.1, length_push done l);
-      handled = omega (arith, stood.handled, tells.2, sum_by-append (λ x. cond (is_do x) 1 0) lines more, length_push done l);
+          subst (λ (s : Schedule). Follows s (length (done ++ l ∷ [])) (lines ++ more) w) (one_more done l e behind says)
+          (subst (λ (n : ℕ). Follows (map event_in done ++ Some e ∷ behind) n (lines ++ more) w) (sym (length_push done l))
+          (goes_on (map event_in done ++ Some e ∷ behind) (length done) lines more p.world w (stood.follows (Some e ∷ behind)) (steps behind)));
+      some = omega (arith, length_push done l);
     }
 
     -- its lines are legal behind the others
@@ -341,18 +303,18 @@ module _ {left now held held' : Option (List ℕ)} {done : List (List ℕ)} {lin
         → OfSchedule left (λ schedule. IsLegal schedule (lines ++ more))
     legal_on w more steps =
         with_event (λ schedule. IsLegal schedule (lines ++ more))
-        (λ behind. more_legal (map event_in done ++ Some e ∷ behind) (Some e ∷ behind) (length done) lines more p.world w (stood.follows (Some e ∷ behind)) (steps behind))
+        (λ behind. more_legal (map event_in done ++ Some e ∷ behind) (length done) lines more p.world w (stood.follows (Some e ∷ behind)) (steps behind))
 
     -- it ends the schedule
-    pub ends_here : (w : World) → ((behind : Schedule) → let schedule = map event_in done ++ Some e ∷ behind in Steps schedule (book_of schedule lines) w (Ok Ended)) → Tells p.world w e Ended
-        → OfSchedule left (λ schedule. Finishes schedule lines line.End true)
-    ends_here w steps tells =
-        with_event (λ schedule. Finishes schedule lines line.End true)
-        (λ behind. ends (map event_in done ++ Some e ∷ behind) behind (length done) e lines p.world (stood.follows (Some e ∷ behind)) within (steps behind) tells)
+    pub ends_here : (w : World) → ((behind : Schedule) → let schedule = map event_in done ++ Some e ∷ behind in Steps schedule (book_of schedule lines) w (Ok Ended))
+        → OfSchedule left (λ schedule. Finishes schedule lines line.End)
+    ends_here w steps =
+        with_event (λ schedule. Finishes schedule lines line.End)
+        (λ behind. ends (map event_in done ++ Some e ∷ behind) (length done) lines p.world (stood.follows (Some e ∷ behind)) (steps behind))
 
     -- it may not come
-    pub refuses_here : (w : World) → ((behind : Schedule) → let schedule = map event_in done ++ Some e ∷ behind in Steps schedule (book_of schedule lines) w (Ok Refused)) → Tells p.world w e Refused
-        → OfSchedule left (λ schedule. Finishes schedule lines (line.Refused (length done + 1)) false)
-    refuses_here w steps tells =
-        with_event (λ schedule. Finishes schedule lines (line.Refused (length done + 1)) false)
-        (λ behind. refuses_event (map event_in done ++ Some e ∷ behind) behind (length done) e lines p.world (stood.follows (Some e ∷ behind)) within (steps behind) tells)
+    pub refuses_here : (w : World) → ((behind : Schedule) → let schedule = map event_in done ++ Some e ∷ behind in Steps schedule (book_of schedule lines) w (Ok Refused))
+        → OfSchedule left (λ schedule. Finishes schedule lines (line.Refused (length done + 1)))
+    refuses_here w steps =
+        with_event (λ schedule. Finishes schedule lines (line.Refused (length done + 1)))
+        (λ behind. refuses (map event_in done ++ Some e ∷ behind) (length done) lines p.world (stood.follows (Some e ∷ behind)) (steps behind))

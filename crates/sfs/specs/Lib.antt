@@ -7,7 +7,6 @@ pub mod Reply
 pub mod Outcome
 pub mod Book
 pub mod Legal
-pub mod Completes
 pub mod World
 pub mod ScheduleReader
 pub mod Replay

@@ -1,5 +1,5 @@
 -- What a run of the program owes: what it wrote, which status it ends in, and which fault that names.
-use Rattle.std.specs.Prelude.{◌≡◌, ℕ, Bool, true, false, List, [], ◌∷◌, codes, Option}
+use Rattle.std.specs.Prelude.{◌≡◌, ℕ, List, [], ◌∷◌, codes, Option}
 use Rattle.sfs_base.specs.Fault.{Rose}
 use Rattle.sfs.specs.declared.ending.Ending.TheVariants as ending
 use Rattle.sfs.specs.declared.status.Status.{Status}
@@ -23,18 +23,6 @@ Transcribes left left' held held' status.WriteFault = Stopped left left' held he
 Transcribes left left' held held' status.NoMemory = Stopped left left' held held' stop.NoMemory
 Transcribes left left' held held' status.DiskFault = ⊥
 Transcribes left left' held held' status.PortFault = ⊥
-
--- the status of a replay in which no count rose: it follows from whether the schedule reaches its end, or memory ran out
-abbrev pub Decided : Bool → Status → Type 0
-Decided whole status.Done = whole ≡ true
-Decided whole status.Differs = ⊥
-Decided whole status.Usage = ⊥
-Decided whole status.Refused = whole ≡ false
-Decided whole status.ReadFault = ⊥
-Decided whole status.WriteFault = ⊥
-Decided whole status.NoMemory = Unit {0}
-Decided whole status.DiskFault = ⊥
-Decided whole status.PortFault = ⊥
 
 -- a fault is answered where the count of its object rose in this run, and the other count stayed; else both stayed
 abbrev pub Causes : ℕ → ℕ → ℕ → ℕ → Status → Type 0

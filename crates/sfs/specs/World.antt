@@ -1,5 +1,5 @@
 -- What the plain world is for a transcript, and what one event makes of it.
-use Rattle.std.specs.Prelude.{◌≡◌, ℕ, ◌+◌, ◌≤◌, Bool, true, false, List, [], ◌∷◌, ◌++◌, length, All, count_by, Option, Some, None, Result, Ok, Err}
+use Rattle.std.specs.Prelude.{◌≡◌, ℕ, ◌+◌, ◌≤◌, List, [], ◌∷◌, ◌++◌, length, All, Option, Some, None, Result, Ok, Err}
 use Rattle.std.specs.List.{AllByRecursion}
 use Rattle.sfs_base.specs.declared.no_memory.NoMemory.{NoMemory}
 use Rattle.fs_rules.specs.Fresh.{fresh}
@@ -15,7 +15,6 @@ use Rattle.sfs.specs.declared.step.Step.{Step}
 use Rattle.sfs.specs.declared.step.Step.TheVariants.{On, Ended, Refused}
 use Rattle.sfs.specs.Schedule.{Schedule, cluster_of, cluster_in}
 use Rattle.schedule_text.specs.declared.line.Line.TheVariants as line
-use Rattle.sfs.specs.Completes.{reached}
 use Rattle.sfs.specs.Book.{Book, last_tree, next_event, book_after}
 use Rattle.sfs.specs.Legal.{IsAtRest, IsLegalFrom}
 
@@ -42,21 +41,6 @@ Steps schedule book new (Ok (On lines)) = GoesOn schedule book new lines
 Steps schedule book new (Ok Ended) = next_event schedule book ≡ Some event.End
 Steps schedule book new (Ok Refused) = next_event schedule book ≡ None
 Steps schedule book new (Err e) = Unit {0}
-
--- a line with which an arrival begins
-abbrev pub is_do : Line → Bool
-is_do (line.DoArrive arrival node) = true
-is_do (line.Point point arrival made) = false
-is_do (line.Reply arrival at bytes) = false
-is_do (line.Dropped arrival why) = false
-is_do (line.Refused number) = false
-is_do line.End = false
-
--- what one event tells of the schedule: it goes on to the lines behind it, ends it, or is no event that may come
-abbrev pub Tells : World → World → Event → Step → Type 0
-Tells old new e (On lines) = ((behind : Bool) → reached old.tree.geometry e behind ≡ behind) × (new.arrivals ≡ old.arrivals + 1) × (count_by is_do lines ≡ 1)
-Tells old new e Ended = (behind : Bool) → reached old.tree.geometry e behind ≡ true
-Tells old new e Refused = (behind : Bool) → reached old.tree.geometry e behind ≡ false
 
 -- the line that ends an arrival: its reply, or that it gets none
 abbrev pub closing : ℕ → ℕ → Option (List ℕ) → Line

@@ -1,4 +1,4 @@
-ghost use Rattle.std.specs.Prelude.{◌≡◌, ℕ, ◌-◌, ◌<◌, ◌^◌, List, slice_get, Some, IfOk};
+ghost use Rattle.std.specs.Prelude.{◌≡◌, ℕ, ◌<◌, List, slice_get, Some, IfOk};
 ghost use Rattle.schedule_text.specs.declared.event.Event.TheVariants as event;
 ghost use Rattle.schedule_text.specs.declared.limits.TheConstants.{MAX_LINES};
 ghost use Rattle.sfs.specs.Schedule.{Schedule};
@@ -16,7 +16,7 @@ use sfs_base::{Bytes, NoMemory, Seq};
 use std::alloc::Global;
 
 impl World {
-    ghost use Rattle.sfs.specs.World.{Stands, Steps, Tells, HasSpellings, Opens};
+    ghost use Rattle.sfs.specs.World.{Stands, Steps, HasSpellings, Opens};
 
     /// The world of the cluster that the first event of a schedule names; `None` where it names none
     /// within the limits.
@@ -52,7 +52,6 @@ impl World {
     pub fn step(&mut self, alloc: Global, event: &Event) -> Result<Step, NoMemory>
         ensures step { (schedule : Schedule) (book : Book) → Stands schedule book self.old → book.lines < MAX_LINES
             → slice_get schedule book.lines ≡ Some (Some event.now) → Steps schedule book self.new result }
-        ensures tells { self.old.arrivals < 2 ^ 32 - 1 → IfOk result (Tells self.old self.new event.now) }
         ensures spelled { IfOk result HasSpellings }
     {
         match event {
@@ -83,7 +82,6 @@ impl World {
     ) -> Result<Step, NoMemory>
         ensures step { (schedule : Schedule) (book : Book) → Stands schedule book self.old → book.lines < MAX_LINES
             → slice_get schedule book.lines ≡ Some (Some (event.Arrive node moment.sec moment.usec bytes.now)) → Steps schedule book self.new result }
-        ensures tells { self.old.arrivals < 2 ^ 32 - 1 → IfOk result (Tells self.old self.new (event.Arrive node moment.sec moment.usec bytes.now)) }
         ensures spelled { IfOk result HasSpellings }
     {
         if node >= self.tree.geometry().nodes || self.arrivals == u32::MAX {

@@ -1,9 +1,6 @@
-ghost use Rattle.std.specs.Prelude.{◌≡◌, ◌↔◌, ℕ, true, List, map, string_bytes, Option, Some};
-ghost use Rattle.sfs_base.specs.Fault.{Rose};
+ghost use Rattle.std.specs.Prelude.{◌≡◌, ◌↔◌, true, map, string_bytes};
 ghost use Rattle.sfs.specs.declared.status.Status.TheVariants as status;
-ghost use Rattle.sfs.specs.Completes.{completes};
-ghost use Rattle.sfs.specs.Run.{AsksReplay, Transcribes, Decided, Causes};
-ghost use Rattle.sfs.specs.Schedule.{schedule_of};
+ghost use Rattle.sfs.specs.Run.{AsksReplay, Transcribes, Causes};
 
 use crate::replay::replay_schedule;
 use crate::status::Status;
@@ -24,8 +21,6 @@ pub fn run<S: Source, K: Sink>(
 ) -> Status
     ensures usage { (result ≡ status.Usage) ↔ (AsksReplay (map string_bytes words.now) → ⊥) }
     ensures transcript { Transcribes (S.left input.old) (S.left input.new) (K.held output.old) (K.held output.new) result }
-    ensures decided { (text : List ℕ) → S.left input.old ≡ Some text → AsksReplay (map string_bytes words.now)
-        → (Rose (S.faults input.old) (S.faults input.new) → ⊥) → (Rose (K.faults output.old) (K.faults output.new) → ⊥) → Decided (completes (schedule_of text)) result }
     ensures causes { Causes (S.faults input.old) (S.faults input.new) (K.faults output.old) (K.faults output.new) result }
 {
     if !asks_replay(words) {

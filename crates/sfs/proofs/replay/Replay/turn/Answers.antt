@@ -8,8 +8,7 @@ use Rattle.schedule_text.specs.declared.line.Line.{Line}
 use Rattle.sfs.specs.Output.{WritesFront}
 use Rattle.sfs.specs.Legal.{text_of}
 use Rattle.sfs.specs.ScheduleReader.{ReadsEvent}
-use Rattle.sfs.proofs.ReplayLemmas.{StepsAll, read_counts, read_stopped, none_follows, breaks_off, few_came, steps_at, stands_on, legal_on, write_stopped, ends_here, refuses_here}
-use Rattle.sfs.specs.World.{Tells}
+use Rattle.sfs.proofs.ReplayLemmas.{StepsAll, read_counts, read_stopped, none_follows, breaks_off, steps_at, stands_on, legal_on, write_stopped, ends_here, refuses_here}
 use Rattle.sfs.proofs.replay.Replay.turn.Goals as goal
 
 pub returns-in_err-event-clause-counts : goal.returns-in_err-event-clause-counts
@@ -52,9 +51,8 @@ returns-in-On-clause-turns g c left held done lines stood within =
     let read = subst (λ (o : Option Event). ReadsEvent left (g.S.Source.left c.next_event.new.source) done c.next_event.new.self (Ok o)) c.in-Some.is ((c.in_ok-event.ensures {u = tt}).reads left done stood.read) in
     let steps = steps_at stood _ read.0 event read.1 c.next_event.new.self read.2 within c.step.new.self (On c.in-On.lines)
     (subst (λ (s : Step). StepsAll c.args.self.now.world event c.step.new.self s) c.in-On.is (c.in_ok-lines.ensures {u = tt}).step) in
-    let tells = subst (Tells c.args.self.now.world c.step.new.self event) c.in-On.is ((c.in_ok-lines.ensures {u = tt}).tells (few_came stood within)) in
     let front = subst (λ (ls : List Line). (rest : List ℕ) × WritesFront (g.K.Sink.held c.args.output.now) (g.K.Sink.held c.write_lines.new.output) (text_of ls) rest × rest ≡ []) c.as_slice.ensures.value (c.in_ok-write_lines-in-On.ensures {u = tt}).front in
-    (read.0, c.in-On.lines, stands_on stood _ read.0 event read.1 c.next_event.new.self read.2 within c.step.new.self c.in-On.lines _ front.0 steps tells front.1 front.2)
+    (read.0, c.in-On.lines, stands_on stood _ read.0 event read.1 c.next_event.new.self read.2 within c.step.new.self c.in-On.lines _ front.0 steps front.1 front.2)
 
 pub returns-in-Ended-clause-turns : goal.returns-in-Ended-clause-turns
 returns-in-Ended-clause-turns g c left held done lines stood within =
@@ -62,8 +60,7 @@ returns-in-Ended-clause-turns g c left held done lines stood within =
     let read = subst (λ (o : Option Event). ReadsEvent left (g.S.Source.left c.next_event.new.source) done c.next_event.new.self (Ok o)) c.in-Some.is ((c.in_ok-event.ensures {u = tt}).reads left done stood.read) in
     let steps = steps_at stood _ read.0 event read.1 c.next_event.new.self read.2 within c.step.new.self Ended
     (subst (λ (s : Step). StepsAll c.args.self.now.world event c.step.new.self s) c.in-Ended.is (c.in_ok-lines.ensures {u = tt}).step) in
-    let tells = subst (Tells c.args.self.now.world c.step.new.self event) c.in-Ended.is ((c.in_ok-lines.ensures {u = tt}).tells (few_came stood within)) in
-    (stood.put, ends_here stood _ read.0 event read.1 c.next_event.new.self read.2 within c.step.new.self steps tells)
+    (stood.put, ends_here stood _ read.0 event read.1 c.next_event.new.self read.2 within c.step.new.self steps)
 
 pub returns-clause-turns : goal.returns-clause-turns
 returns-clause-turns g c left held done lines stood within =
@@ -71,5 +68,4 @@ returns-clause-turns g c left held done lines stood within =
     let read = subst (λ (o : Option Event). ReadsEvent left (g.S.Source.left c.next_event.new.source) done c.next_event.new.self (Ok o)) c.in-Some.is ((c.in_ok-event.ensures {u = tt}).reads left done stood.read) in
     let steps = steps_at stood _ read.0 event read.1 c.next_event.new.self read.2 within c.step.new.self Refused
     (subst (λ (s : Step). StepsAll c.args.self.now.world event c.step.new.self s) c.in-Refused.is (c.in_ok-lines.ensures {u = tt}).step) in
-    let tells = subst (Tells c.args.self.now.world c.step.new.self event) c.in-Refused.is ((c.in_ok-lines.ensures {u = tt}).tells (few_came stood within)) in
-    (stood.put, refuses_here stood _ read.0 event read.1 c.next_event.new.self read.2 within c.step.new.self steps tells)
+    (stood.put, refuses_here stood _ read.0 event read.1 c.next_event.new.self read.2 within c.step.new.self steps)

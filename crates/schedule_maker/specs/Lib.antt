@@ -1,0 +1,4 @@
+pub mod Draws
+pub mod Making
+pub mod Left
+pub mod Laws

@@ -1,0 +1,124 @@
+-- Carried: each change and each reply rests on messages that were delivered.
+use Rattle.std.specs.Prelude.{◌≡◌, ℕ, ◌-◌, ◌/◌, ◌%◌, ◌<◌, ◌==◌, nat_lt, take, drop, Bool, true, false, ◌&&◌, not, if◌then◌else◌, List, [], ◌∷◌, Option, Some, None, ◌⊎◌}
+use Rattle.std.specs.List.{list_any, list_all}
+use Rattle.std.specs.Int.{w32, from_be_bytes}
+use Rattle.std.specs.Option.{option_map_or}
+use Rattle.fs_rules.specs.declared.geometry.Geometry.{Geometry}
+use Rattle.fs_rules.specs.Handle.{handle, number_in}
+use Rattle.fs_rules.specs.Arguments.{handles_of}
+use Rattle.std.specs.Str.{bytes_eq}
+use Rattle.mini_tx.specs.declared.actor.Actor.{Actor}
+use Rattle.mini_tx.specs.declared.actor.Actor.TheVariants.{Node, Memory}
+use Rattle.nfs_service.specs.declared.request.Request.{Request}
+use Rattle.nfs_service.specs.declared.request.Request.TheVariants as request
+use Rattle.nfs_service.specs.Reply.{heard}
+use Rattle.event_text.specs.declared.event.Event.{Event}
+use Rattle.event_text.specs.declared.event.Event.TheVariants as event
+use Rattle.line_text.specs.declared.line.Line.{Line}
+use Rattle.line_text.specs.declared.line.Line.TheVariants as line
+use Rattle.line_text.specs.declared.sent_kind.SentKind.{SentKind}
+use Rattle.line_text.specs.declared.sent_kind.SentKind.TheVariants as sent
+use Rattle.transcript_rules.specs.Opening.{Opening}
+use Rattle.transcript_rules.specs.Book.{Book, Arrival, Post, numbered, is_actor, handled_now}
+
+-- ---- which arrivals need the file system
+
+-- the generation that a handle has
+abbrev pub generation_in : List ℕ → ℕ
+generation_in bytes = from_be_bytes w32 (take 4 (drop 8 bytes))
+
+-- a number of the cluster: inode i of memory node m is file 16384 * m + i + 1
+abbrev pub is_number : Geometry → ℕ → Bool
+is_number g n = nat_lt 0 n && nat_lt ((n - 1) / 16384) g.memories && nat_lt ((n - 1) % 16384) g.inodes
+
+-- a handle has its form, and a number of the cluster
+abbrev pub is_handle : Geometry → List ℕ → Bool
+is_handle g bytes = bytes_eq bytes (handle (number_in bytes) (generation_in bytes)) && is_number g (number_in bytes)
+
+-- a call of the file system whose handles all are
+abbrev pub needs_files : Geometry → Request → Bool
+needs_files g (request.Told reply) = false
+needs_files g request.Silent = false
+needs_files g (request.Asked xid call cred) = list_all (is_handle g) (handles_of call)
+
+-- ---- what kind of message or event it is
+
+abbrev pub is_prepare : SentKind → Bool
+is_prepare sent.Prepare = true
+is_prepare other = false
+
+abbrev pub is_granted : SentKind → Bool
+is_granted sent.VoteOk = true
+is_granted other = false
+
+-- the memory node that starts
+abbrev pub starts_memory : Option Event → Option ℕ
+starts_memory (Some (event.Start (Memory m) choice)) = Some m
+starts_memory other = None
+
+-- ---- replies
+
+-- a reply that is not made at once stands under the delivery of a granted vote that was posted to its node after it came
+pub record RestsOnVote (book : Book) (a : Arrival) : Type 0 where
+  pub p : Post
+  pub m : ℕ
+  pub handled : handled_now book ≡ Some p
+  pub from : p.from ≡ Memory m
+  pub to : p.to ≡ Node a.node
+  pub granted : p.words ≡ sent.VoteOk
+  pub after : a.under < p.under
+
+-- the last event before this one, posts of repeated messages aside, in which a node posted a prepare
+unfoldable pub last_attempt : ℕ → ℕ → List Post → ℕ
+last_attempt n now [] = 0
+last_attempt n now (p ∷ rest) =
+    let behind = last_attempt n now rest in
+    if is_actor p.from (Node n) && is_prepare p.words && nat_lt p.under now && not p.again && nat_lt behind p.under then p.under else behind
+
+-- a granted vote of this memory node to the node was posted after that event, and delivered after it
+abbrev pub has_vote : Book → ℕ → Actor → ℕ → Bool
+has_vote book n memory e =
+    list_any (λ d. nat_lt e d.under && option_map_or (λ v. is_actor v.from memory && is_actor v.to (Node n) && is_granted v.words && nat_lt e v.under) (numbered book.posts d.message) false) book.deliveries
+
+-- from every memory node to which the node posted one in that event
+abbrev pub have_votes : Book → ℕ → ℕ → Bool
+have_votes book n e =
+    list_all (λ p. if is_actor p.from (Node n) && is_prepare p.words && (p.under == e) then has_vote book n p.to e else true) book.posts
+
+-- an arrival that made a change is answered only where all took part in its last attempt
+pub record RestsOnAll (book : Book) (a : Arrival) : Type 0 where
+  pub all : (point : ℕ) → a.point ≡ Some point → have_votes book a.node (last_attempt a.node book.under book.posts) ≡ true
+
+-- `reply A ..`: in A's own event exactly where no file system is needed
+pub record IsCarriedReply (o : Opening) (book : Book) (arrival : ℕ) : Type 0 where
+  pub a : Arrival
+  pub came : numbered book.arrivals arrival ≡ Some a
+  pub at_once : a.under ≡ book.under → needs_files o.geometry (heard a.bytes) ≡ false
+  pub later : a.under < book.under → (needs_files o.geometry (heard a.bytes) ≡ true) × RestsOnVote book a
+  pub whole : RestsOnAll book a
+
+-- ---- changes
+
+-- under the delivery of a prepare of the arrival's node
+pub record IsPrepared (book : Book) (a : Arrival) : Type 0 where
+  pub p : Post
+  pub handled : handled_now book ≡ Some p
+  pub from : p.from ≡ Node a.node
+  pub prepare : p.words ≡ sent.Prepare
+
+-- or under the start of a memory node
+pub record IsStarted (book : Book) : Type 0 where
+  pub m : ℕ
+  pub started : starts_memory book.now ≡ Some m
+
+-- `point P arrival A ..`
+pub record IsCarriedPoint (book : Book) (arrival : ℕ) : Type 0 where
+  pub a : Arrival
+  pub came : numbered book.arrivals arrival ≡ Some a
+  pub under : IsPrepared book a ⊎ IsStarted book
+
+-- a line is carried
+abbrev pub IsCarried : Opening → Book → Line → Type 0
+IsCarried o book (line.Point point arrival made) = IsCarriedPoint book arrival
+IsCarried o book (line.Reply arrival at bytes) = IsCarriedReply o book arrival
+IsCarried o book other = Unit {0}

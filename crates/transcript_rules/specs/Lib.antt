@@ -1,0 +1,9 @@
+pub mod Opening
+pub mod Book
+pub mod Next
+pub mod Truth
+pub mod Carried
+pub mod Cause
+pub mod Place
+pub mod Legal
+pub mod Laws
