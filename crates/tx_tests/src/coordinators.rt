@@ -40,6 +40,19 @@ fn granted(alloc: Global) -> Result<Message, NoMemory> {
     })
 }
 
+// A vote that another minitransaction is in the way of.
+fn locked() -> Message {
+    Message::Voted {
+        id: ID,
+        vote: Vote::Locked { holder: ID },
+    }
+}
+
+// That a participant is through.
+fn done() -> Message {
+    Message::Done { id: ID }
+}
+
 #[test]
 fn votes_of_two_participants_decide(rt: HostRuntime) -> Result<(), Fail> {
     let vote = granted(rt.alloc())?;
@@ -53,19 +66,14 @@ fn votes_of_two_participants_decide(rt: HostRuntime) -> Result<(), Fail> {
 
 #[test]
 fn a_decision_is_told_until_all_are_through(rt: HostRuntime) -> Result<(), Fail> {
-    let refused = Message::Voted {
-        id: ID,
-        vote: Vote::Locked { holder: ID },
-    };
-    let done = Message::Done { id: ID };
     let mut coordinator = begun(rt.alloc())?;
     assert_eq!(rt; coordinator.resend()?.len(), 2);
-    coordinator.hear(1, &refused)?;
+    coordinator.hear(1, &locked())?;
     coordinator.clear();
     assert_eq!(rt; coordinator.resend()?.len(), 2);
-    assert_eq!(rt; coordinator.hear(0, &done)?.len(), 0);
+    assert_eq!(rt; coordinator.hear(0, &done())?.len(), 0);
     assert_eq!(rt; coordinator.resend()?.len(), 1);
-    assert_eq!(rt; coordinator.hear(1, &done)?.len(), 2);
+    assert_eq!(rt; coordinator.hear(1, &done())?.len(), 2);
     assert_eq!(rt; coordinator.resend()?.len(), 0);
     coordinator.give_up();
     assert_eq!(rt; coordinator.state(), &TxState::Idle);
