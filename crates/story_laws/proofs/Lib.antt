@@ -1,3 +1,4 @@
 mod GrowthLemmas
 mod IdentifierLemmas
 mod CastLemmas
+mod BeginningLemmas

@@ -1,3 +1,4 @@
 pub mod Growth
 pub mod Identifiers
 pub mod Casts
+pub mod Beginnings

@@ -1,4 +1,5 @@
 //! Laws of the story of a cluster.
+ghost use Rattle.story_laws.specs.Beginnings.{NamedWasBegun};
 ghost use Rattle.story_laws.specs.Casts.{CastsAreTheEntries};
 ghost use Rattle.story_laws.specs.Growth.{StepsOnlyAdd, ChangesAreGranted};
 ghost use Rattle.story_laws.specs.Identifiers.{IdentifiersAreBegunOnce};
@@ -21,4 +22,10 @@ pub fn changes_are_granted()
 /// Each memory node has cast the votes of its Granted entries, in their order and each once.
 pub fn casts_are_the_entries()
     ensures { CastsAreTheEntries }
+{}
+
+/// What is logged, posted, cast, running or refused was begun; and each `prepare` is to a participant of what was begun,
+/// and tells it all participants and its own items.
+pub fn what_is_named_was_begun()
+    ensures { NamedWasBegun }
 {}
