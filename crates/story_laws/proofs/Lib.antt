@@ -2,3 +2,4 @@ mod GrowthLemmas
 mod IdentifierLemmas
 mod CastLemmas
 mod BeginningLemmas
+mod CompleteLemmas

@@ -2,3 +2,4 @@ pub mod Growth
 pub mod Identifiers
 pub mod Casts
 pub mod Beginnings
+pub mod Complete

@@ -1,6 +1,7 @@
 //! Laws of the story of a cluster.
 ghost use Rattle.story_laws.specs.Beginnings.{NamedWasBegun};
 ghost use Rattle.story_laws.specs.Casts.{CastsAreTheEntries};
+ghost use Rattle.story_laws.specs.Complete.{GrantedAreChanges};
 ghost use Rattle.story_laws.specs.Growth.{StepsOnlyAdd, ChangesAreGranted};
 ghost use Rattle.story_laws.specs.Identifiers.{IdentifiersAreBegunOnce};
 
@@ -28,4 +29,10 @@ pub fn casts_are_the_entries()
 /// and tells it all participants and its own items.
 pub fn what_is_named_was_begun()
     ensures { NamedWasBegun }
+{}
+
+/// And the converse of `changes_are_granted`: what was begun with a write item and granted by all its participants is in
+/// the history.
+pub fn granted_are_changes()
+    ensures { GrantedAreChanges }
 {}

@@ -7,6 +7,6 @@
 mod laws;
 
 pub use laws::{
-    casts_are_the_entries, changes_are_granted, identifiers_are_begun_once,
+    casts_are_the_entries, changes_are_granted, granted_are_changes, identifiers_are_begun_once,
     steps_only_add, what_is_named_was_begun,
 };
