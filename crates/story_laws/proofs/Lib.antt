@@ -3,3 +3,4 @@ mod IdentifierLemmas
 mod CastLemmas
 mod BeginningLemmas
 mod CompleteLemmas
+mod SiteLemmas

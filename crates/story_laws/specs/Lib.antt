@@ -3,3 +3,4 @@ pub mod Identifiers
 pub mod Casts
 pub mod Beginnings
 pub mod Complete
+pub mod Sites

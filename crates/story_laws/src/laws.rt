@@ -4,6 +4,7 @@ ghost use Rattle.story_laws.specs.Casts.{CastsAreTheEntries};
 ghost use Rattle.story_laws.specs.Complete.{GrantedAreChanges};
 ghost use Rattle.story_laws.specs.Growth.{StepsOnlyAdd, ChangesAreGranted};
 ghost use Rattle.story_laws.specs.Identifiers.{IdentifiersAreBegunOnce};
+ghost use Rattle.story_laws.specs.Sites.{SitesAreTheLogs};
 
 /// Each step only adds to what was begun, logged, posted, committed, cast and refused, and makes one point at most.
 pub fn steps_only_add()
@@ -35,4 +36,9 @@ pub fn what_is_named_was_begun()
 /// the history.
 pub fn granted_are_changes()
     ensures { GrantedAreChanges }
+{}
+
+/// A memory node has what its entries make of what its disk stood for at the opening; one that is down had that.
+pub fn sites_are_the_logs()
+    ensures { SitesAreTheLogs }
 {}
