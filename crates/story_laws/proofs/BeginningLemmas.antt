@@ -43,14 +43,14 @@ use Rattle.story_laws.specs.Beginnings.{WasBegun, entry_of, WasBegunIf, IsAboutB
 
 -- ---- lists
 
-in_map : {A B : Type 0} (f : A → B) (y : B) (xs : List A) → In y (map f xs) → (x : A) × In x xs × (y ≡ f x)
+pub in_map : {A B : Type 0} (f : A → B) (y : B) (xs : List A) → In y (map f xs) → (x : A) × In x xs × (y ≡ f x)
 in_map f y [] is = absurd is
 in_map f y (x ∷ xs) is = elim is [
   | inl same ↦ (x, inl refl, same)
   | inr rest ↦ let it = in_map f y xs rest in (it.0, inr it.1, it.2)
 ]
 
-in_filter : {A : Type 0} (test : A → Bool) (x : A) (xs : List A) → In x (filter test xs) → In x xs
+pub in_filter : {A : Type 0} (test : A → Bool) (x : A) (xs : List A) → In x (filter test xs) → In x xs
 in_filter test x [] is = absurd is
 in_filter test x (y ∷ xs) is = go (test y) (in_filter test x xs) is
   where
@@ -78,7 +78,7 @@ get_in [] n x is = absurd cc
 get_in (y ∷ xs) zero x is = inl (some_is y x is)
 get_in (y ∷ xs) (suc n) x is = inr (get_in xs n x is)
 
-set_seat : (xs : List Seat) (n : ℕ) (y : Seat) (m : ℕ) (z : Seat) → slice_get (slice_set xs n y) m ≡ Some z → (z ≡ y) ⊎ (slice_get xs m ≡ Some z)
+pub set_seat : (xs : List Seat) (n : ℕ) (y : Seat) (m : ℕ) (z : Seat) → slice_get (slice_set xs n y) m ≡ Some z → (z ≡ y) ⊎ (slice_get xs m ≡ Some z)
 set_seat [] n y m z is = inr is
 set_seat (x ∷ xs) zero y zero z is = inl (some_is y z is)
 set_seat (x ∷ xs) zero y (suc m) z is = inr is
@@ -598,7 +598,7 @@ node_begun story n p (Some seat) there all = actor_begun story n p seat.boot sea
 
 -- ---- the steps
 
-at_posted : (story : Story) (k : ℕ) (p : Posted) → steps.message_at story k ≡ Some p → In p story.posted
+pub at_posted : (story : Story) (k : ℕ) (p : Posted) → steps.message_at story k ≡ Some p → In p story.posted
 at_posted story zero p is = absurd cc
 at_posted story (suc k) p is = get_in story.posted k p is
 
@@ -662,7 +662,7 @@ empty_log zero m = refl
 empty_log (suc count) zero = refl
 empty_log (suc count) (suc m) = empty_log count m
 
-empty_seat : (boots : List ℕ) (n : ℕ) (seat : Seat) → slice_get (map (λ (boot : ℕ). let s : Seat = record { boot = boot; actor = None } in s) boots) n ≡ Some seat → seat.actor ≡ None
+pub empty_seat : (boots : List ℕ) (n : ℕ) (seat : Seat) → slice_get (map (λ (boot : ℕ). let s : Seat = record { boot = boot; actor = None } in s) boots) n ≡ Some seat → seat.actor ≡ None
 empty_seat [] n seat is = absurd cc
 empty_seat (boot ∷ boots) zero seat is = ap (λ (s : Seat). s.actor) (some_is (record { boot = boot; actor = None }) seat is)
 empty_seat (boot ∷ boots) (suc n) seat is = empty_seat boots n seat is

@@ -86,7 +86,7 @@ itself story = record { logs = refl; begun = refl; committed = refl }
 of_none : (id : TxId) → steps.is_of id None ≡ true → ⊥
 of_none id is = cc
 
-not_both : (b : Bool) → b ≡ true → b ≡ false → ⊥
+pub not_both : (b : Bool) → b ≡ true → b ≡ false → ⊥
 not_both true is_true is_false = cc
 not_both false is_true is_false = cc
 

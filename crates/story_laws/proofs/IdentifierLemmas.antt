@@ -191,7 +191,7 @@ answer_same : (story : Story) (m : ℕ) (sender : Actor) (answer : Option Messag
 answer_same story m sender None = record { nodes = refl; begun = refl }
 answer_same story m sender (Some x) = record { nodes = refl; begun = refl }
 
-counted_same : (story : Story) (m : ℕ) (sender : Actor) (e : Option Entry) (answer : Option Message) → HaveSame story (steps.counted story m sender e answer)
+pub counted_same : (story : Story) (m : ℕ) (sender : Actor) (e : Option Entry) (answer : Option Message) → HaveSame story (steps.counted story m sender e answer)
 counted_same story m sender e answer =
     let one = with_entry story m e in
     let two = with_grant one m (grant_of e) in

@@ -4,3 +4,4 @@ mod CastLemmas
 mod BeginningLemmas
 mod CompleteLemmas
 mod SiteLemmas
+mod VoteLemmas

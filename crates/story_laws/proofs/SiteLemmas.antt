@@ -26,7 +26,7 @@ after_more : (s : State) (entries : List Entry) (e : Entry) → after s (entries
 after_more s [] e = refl
 after_more s (x ∷ entries) e = after_more (after_entry s x) entries e
 
-abbrev with_one : List (List Entry) → ℕ → Option Entry → List (List Entry)
+abbrev pub with_one : List (List Entry) → ℕ → Option Entry → List (List Entry)
 with_one logs m None = logs
 with_one logs m (Some e) = slice_set logs m (slice_index_or logs m [] ++ e ∷ [])
 
@@ -78,7 +78,7 @@ answer_leaves : (story : Story) (m : ℕ) (sender : Actor) (answer : Option Mess
 answer_leaves story m sender None = itself story
 answer_leaves story m sender (Some x) = record { opening = refl; logs = refl; sites = refl }
 
-record TakesEntry (story : Story) (m : ℕ) (e : Option Entry) (now : Story) : Type 0 where
+pub record TakesEntry (story : Story) (m : ℕ) (e : Option Entry) (now : Story) : Type 0 where
   pub opening : now.opening ≡ story.opening
   pub logs : now.logs ≡ with_one story.logs m e
   pub sites : now.sites ≡ story.sites
@@ -87,7 +87,7 @@ entry_takes : (story : Story) (m : ℕ) (e : Option Entry) → TakesEntry story 
 entry_takes story m None = record { opening = refl; logs = refl; sites = refl }
 entry_takes story m (Some e) = record { opening = refl; logs = refl; sites = refl }
 
-counted_takes : (story : Story) (m : ℕ) (sender : Actor) (e : Option Entry) (answer : Option Message) → TakesEntry story m e (steps.counted story m sender e answer)
+pub counted_takes : (story : Story) (m : ℕ) (sender : Actor) (e : Option Entry) (answer : Option Message) → TakesEntry story m e (steps.counted story m sender e answer)
 counted_takes story m sender e answer =
     let one = with_entry story m e in
     let two = with_grant one m (grant_of e) in
@@ -116,7 +116,7 @@ takes_on story m e now old site takes there has all =
           ∙ ap (λ (ls : List (List Entry)). after state (slice_index_or ls n [])) (sym takes.logs);
     }
 
-nothing_taken : (story : Story) (m : ℕ) → TakesEntry story m None story
+pub nothing_taken : (story : Story) (m : ℕ) → TakesEntry story m None story
 nothing_taken story m = record { opening = refl; logs = refl; sites = refl }
 
 reacted_on : (story : Story) (m k : ℕ) (sender : Actor) (n : MemoryNode) (x : Message) (how : How) → slice_get story.sites m ≡ Some (Up n) → AreReplayed story

@@ -4,3 +4,4 @@ pub mod Casts
 pub mod Beginnings
 pub mod Complete
 pub mod Sites
+pub mod Votes

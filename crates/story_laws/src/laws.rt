@@ -5,6 +5,7 @@ ghost use Rattle.story_laws.specs.Complete.{GrantedAreChanges};
 ghost use Rattle.story_laws.specs.Growth.{StepsOnlyAdd, ChangesAreGranted};
 ghost use Rattle.story_laws.specs.Identifiers.{IdentifiersAreBegunOnce};
 ghost use Rattle.story_laws.specs.Sites.{SitesAreTheLogs};
+ghost use Rattle.story_laws.specs.Votes.{VotesHaveEntries};
 
 /// Each step only adds to what was begun, logged, posted, committed, cast and refused, and makes one point at most.
 pub fn steps_only_add()
@@ -41,4 +42,10 @@ pub fn granted_are_changes()
 /// A memory node has what its entries make of what its disk stood for at the opening; one that is down had that.
 pub fn sites_are_the_logs()
     ensures { SitesAreTheLogs }
+{}
+
+/// In a cluster that was opened fresh a Granted vote that was posted has its entry, or is of one participant without a
+/// write item; and a coordinator has counted no others.
+pub fn votes_have_entries()
+    ensures { VotesHaveEntries }
 {}
