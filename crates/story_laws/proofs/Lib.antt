@@ -5,3 +5,4 @@ mod BeginningLemmas
 mod CompleteLemmas
 mod SiteLemmas
 mod VoteLemmas
+mod CommitLemmas

@@ -256,9 +256,12 @@ module _ (begun : List Begun) (log : List Entry) (m : ℕ) where
   module _ (b : Begun) (there : In b begun) (n : node.Node) (id : TxId) (participants : List ℕ) (items : List PlacedItem) (named : b.id ≡ id)
       (all_are : participants ≡ rules.participants_of b.items) (own_are : items ≡ rules.placed_for b.items m) (all : AreInLog n.state log) where
     again : (v : Vote) → (is_granted v ≡ true → has_granted id log ≡ true) → VotesWell (node.answers n (message.Voted id v))
-    again v granted = (tt, λ other reads is.
-        let same = voted_is id other v (vote.Granted reads) is in
-        inl (subst (λ (t : TxId). has_granted t log ≡ true) same.0 (granted (ap is_granted same.1))))
+    again v granted = (
+      tt,
+      λ other reads is.
+          let same = voted_is id other v (vote.Granted reads) is in
+          inl (subst (λ (t : TxId). has_granted t log ≡ true) same.0 (granted (ap is_granted same.1))),
+    )
 
     right_entry : (v : Vote) → IsRight (node.entry_of_vote id participants items v)
     right_entry v = go (is_granted v) refl (node.has_several participants)
@@ -286,15 +289,21 @@ module _ (begun : List Begun) (log : List Entry) (m : ℕ) where
         granted_in false = same_self id
 
         go : (l : Bool) → node.is_logged participants items ≡ l → VotesWell (if l then node.appends n e (message.Voted id (vote.Granted reads)) else node.answers n (message.Voted id (vote.Granted reads)))
-        go true is = (right_entry (vote.Granted reads), λ other bytes answer.
-            let same = voted_is id other (vote.Granted reads) (vote.Granted bytes) answer in
-            inr (inl (subst (λ (t : TxId). is_of t (grant_in e) ≡ true) same.0 (granted_in (node.has_several participants)))))
-        go false is = (tt, λ other bytes answer.
-            let same = voted_is id other (vote.Granted reads) (vote.Granted bytes) answer in
-            let look : IsLook b.items m =
-            subst (λ (ns : List ℕ). node.is_logged ns (rules.placed_for b.items m) ≡ false) all_are
-            (subst (λ (xs : List PlacedItem). node.is_logged participants xs ≡ false) own_are is) in
-            inr (inr (b, there, named ∙ same.0, look)))
+        go true is = (
+          right_entry (vote.Granted reads),
+          λ other bytes answer.
+              let same = voted_is id other (vote.Granted reads) (vote.Granted bytes) answer in
+              inr (inl (subst (λ (t : TxId). is_of t (grant_in e) ≡ true) same.0 (granted_in (node.has_several participants)))),
+        )
+        go false is = (
+          tt,
+          λ other bytes answer.
+              let same = voted_is id other (vote.Granted reads) (vote.Granted bytes) answer in
+              let look : IsLook b.items m =
+              subst (λ (ns : List ℕ). node.is_logged ns (rules.placed_for b.items m) ≡ false) all_are
+              (subst (λ (xs : List PlacedItem). node.is_logged participants xs ≡ false) own_are is) in
+              inr (inr (b, there, named ∙ same.0, look)),
+        )
 
     by_rules : (k : Option Kept) → kept_of n.state.kept id ≡ k → (s : Standing) → node.standing n.state id ≡ s → (cut : Option CutId) (holder : Option TxId) (d : Option Difference)
         → VotesWell (node.by_rule n id participants items (node.rule_by_record k (node.rule_by_floor s (node.rule_by_cut cut holder d))))
@@ -493,7 +502,7 @@ node_stepped story m sender e answer old site now sized step all = record {
         let one : x ≡ site = some_is site x (sym (get_same story.sites m old site step.there) ∙ is) in
         subst (λ (l : List Entry). AreInLog (node_at x).state l) (logged m)
         (subst (λ (s : State). AreInLog s (slice_index_or (with_one story.logs m e) m [])) (sym (ap (λ (y : Site). (node_at y).state) one ∙ step.state))
-          (entry_here story.logs m e (node_at old).state within step.right (all.entries m old step.there)))
+        (entry_here story.logs m e (node_at old).state within step.right (all.entries m old step.there)))
 
     at_site : (k : ℕ) (x : Site) → slice_get (slice_set story.sites m site) k ≡ Some x → (k ≡ m) ⊎ (¬ (k ≡ m)) → AreInLog (node_at x).state (log_of after_ k)
     at_site k x is (inl same) =
@@ -520,7 +529,7 @@ node_stepped story m sender e answer old site now sized step all = record {
 counted_step : (story : Story) (m : ℕ) (sender : Actor) (e : Option Entry) (answer : Option Message) (old site : Site) → slice_get story.sites m ≡ Some old
     → Grows story (steps.with_site (steps.counted story m sender e answer) m site) → (node_at site).state ≡ after_one (node_at old).state e → RightIf e
     → ((id : TxId) (reads : List (List ℕ)) → answer ≡ Some (message.Voted id (vote.Granted reads))
-      → (has_granted id (log_of story m) ≡ true) ⊎ ((is_of id (grant_of e) ≡ true) ⊎ ((b : Begun) × In b story.begun × (b.id ≡ id) × IsLook b.items m)))
+    → (has_granted id (log_of story m) ≡ true) ⊎ ((is_of id (grant_of e) ≡ true) ⊎ ((b : Begun) × In b story.begun × (b.id ≡ id) × IsLook b.items m)))
     → IsNodeStep story m sender e answer old site (steps.counted story m sender e answer)
 counted_step story m sender e answer old site there grows state right vouched = record {
   there = there;
@@ -559,14 +568,14 @@ module _ (story : Story) (sized : length story.logs ≡ length story.sites) (all
       let well = votes_well story.begun (log_of story m) m n x about (all.entries m (Up n) there) in
       node_stepped story m sender r.entry r.answer (Up n) (Up r.now) (steps.counted story m sender r.entry r.answer) sized
       (counted_step story m sender r.entry r.answer (Up n) (Up r.now) there
-        (moved story (steps.counted story m sender r.entry r.answer) m (Up r.now) (counted_grows story m sender r.entry r.answer)) refl well.0 well.1) all
+      (moved story (steps.counted story m sender r.entry r.answer) m (Up r.now) (counted_grows story m sender r.entry r.answer)) refl well.0 well.1) all
   reacted_told m k sender n x Stopped there about =
       let r = reaction n x in
       let well = votes_well story.begun (log_of story m) m n x about (all.entries m (Up n) there) in
       node_stepped story m sender r.entry None (Up n) (Down r.now None) (steps.counted story m sender r.entry None) sized
       (counted_step story m sender r.entry None (Up n) (Down r.now None) there
-        (moved story (steps.counted story m sender r.entry None) m (Down r.now None) (counted_grows story m sender r.entry None)) refl well.0
-        (λ id reads is. absurd (none_voted id reads is))) all
+      (moved story (steps.counted story m sender r.entry None) m (Down r.now None) (counted_grows story m sender r.entry None)) refl well.0
+      (λ id reads is. absurd (none_voted id reads is))) all
   reacted_told m k sender n x WentDown there about = quietly m (Up n) (Down n (Some k)) there refl
   reacted_told m k sender n x WasFull there about = quietly m (Up n) (Down n None) there refl
 
@@ -587,8 +596,8 @@ module _ (story : Story) (sized : length story.logs ≡ length story.sites) (all
       let site = Up (with_state r.now.state) in
       node_stepped story m p.from r.entry None (Down n (Some k)) site (steps.counted story m p.from r.entry None) sized
       (counted_step story m p.from r.entry None (Down n (Some k)) site there
-        (moved story (steps.counted story m p.from r.entry None) m site (counted_grows story m p.from r.entry None)) refl well.0
-        (λ id reads is. absurd (none_voted id reads is))) all
+      (moved story (steps.counted story m p.from r.entry None) m site (counted_grows story m p.from r.entry None)) refl well.0
+      (λ id reads is. absurd (none_voted id reads is))) all
 
   site_told : (m : ℕ) (found : Bool) (site : Option Site) → slice_get story.sites m ≡ site
       → ((k : ℕ) (q : Posted) → steps.message_at story k ≡ Some q → IsAboutBegun story.begun q.to q.message) → AreTold (steps.from_site story m found site)

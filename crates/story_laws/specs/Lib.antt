@@ -5,3 +5,4 @@ pub mod Beginnings
 pub mod Complete
 pub mod Sites
 pub mod Votes
+pub mod Committed

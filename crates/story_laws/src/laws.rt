@@ -1,6 +1,7 @@
 //! Laws of the story of a cluster.
 ghost use Rattle.story_laws.specs.Beginnings.{NamedWasBegun};
 ghost use Rattle.story_laws.specs.Casts.{CastsAreTheEntries};
+ghost use Rattle.story_laws.specs.Committed.{CommittedIsVoted};
 ghost use Rattle.story_laws.specs.Complete.{GrantedAreChanges};
 ghost use Rattle.story_laws.specs.Growth.{StepsOnlyAdd, ChangesAreGranted};
 ghost use Rattle.story_laws.specs.Identifiers.{IdentifiersAreBegunOnce};
@@ -48,4 +49,9 @@ pub fn sites_are_the_logs()
 /// write item; and a coordinator has counted no others.
 pub fn votes_have_entries()
     ensures { VotesHaveEntries }
+{}
+
+/// Where a coordinator ends what runs as Committed, each participant has a Granted entry of it, or has looked.
+pub fn committed_is_voted()
+    ensures { CommittedIsVoted }
 {}
