@@ -6,3 +6,4 @@ mod CompleteLemmas
 mod SiteLemmas
 mod VoteLemmas
 mod CommitLemmas
+mod OutcomeLemmas

@@ -6,3 +6,4 @@ pub mod Complete
 pub mod Sites
 pub mod Votes
 pub mod Committed
+pub mod Outcomes

@@ -5,6 +5,7 @@ ghost use Rattle.story_laws.specs.Committed.{CommittedIsVoted};
 ghost use Rattle.story_laws.specs.Complete.{GrantedAreChanges};
 ghost use Rattle.story_laws.specs.Growth.{StepsOnlyAdd, ChangesAreGranted};
 ghost use Rattle.story_laws.specs.Identifiers.{IdentifiersAreBegunOnce};
+ghost use Rattle.story_laws.specs.Outcomes.{CommittedIsAChange};
 ghost use Rattle.story_laws.specs.Sites.{SitesAreTheLogs};
 ghost use Rattle.story_laws.specs.Votes.{VotesHaveEntries};
 
@@ -54,4 +55,9 @@ pub fn votes_have_entries()
 /// Where a coordinator ends what runs as Committed, each participant has a Granted entry of it, or has looked.
 pub fn committed_is_voted()
     ensures { CommittedIsVoted }
+{}
+
+/// So a change that a coordinator ends as Committed has its place in the history.
+pub fn committed_is_a_change()
+    ensures { CommittedIsAChange }
 {}
