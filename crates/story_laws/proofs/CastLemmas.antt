@@ -22,17 +22,17 @@ use Rattle.story_laws.specs.Casts.{before_others, grants_in, casts_at, moment_of
 
 -- ---- lists
 
-set_length : {A : Type 0} (xs : List A) (n : ℕ) (y : A) → length (slice_set xs n y) ≡ length xs
+pub set_length : {A : Type 0} (xs : List A) (n : ℕ) (y : A) → length (slice_set xs n y) ≡ length xs
 set_length [] n y = refl
 set_length (x ∷ xs) zero y = refl
 set_length (x ∷ xs) (suc n) y = ap suc (set_length xs n y)
 
-set_here : (logs : List (List Entry)) (m : ℕ) (l : List Entry) → m < length logs → slice_index_or (slice_set logs m l) m [] ≡ l
+pub set_here : (logs : List (List Entry)) (m : ℕ) (l : List Entry) → m < length logs → slice_index_or (slice_set logs m l) m [] ≡ l
 set_here [] m l within = absurd (omega arith)
 set_here (x ∷ logs) zero l within = refl
 set_here (x ∷ logs) (suc m) l within = set_here logs m l (omega arith)
 
-set_there : (logs : List (List Entry)) (m n : ℕ) (l : List Entry) → ¬ (n ≡ m) → slice_index_or (slice_set logs m l) n [] ≡ slice_index_or logs n []
+pub set_there : (logs : List (List Entry)) (m n : ℕ) (l : List Entry) → ¬ (n ≡ m) → slice_index_or (slice_set logs m l) n [] ≡ slice_index_or logs n []
 set_there [] m n l other = refl
 set_there (x ∷ logs) zero zero l other = absurd (other refl)
 set_there (x ∷ logs) zero (suc n) l other = refl
@@ -296,7 +296,7 @@ empty_log zero m = refl
 empty_log (suc count) zero = refl
 empty_log (suc count) (suc m) = empty_log count m
 
-map_length : (states : List State) → length (map (λ (s : State). Up (with_state s)) states) ≡ length states
+pub map_length : (states : List State) → length (map (λ (s : State). Up (with_state s)) states) ≡ length states
 map_length [] = refl
 map_length (s ∷ states) = ap suc (map_length states)
 

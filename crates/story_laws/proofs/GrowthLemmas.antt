@@ -82,29 +82,29 @@ grown before now keeps point = record {
   refused = keeps.refused;
 }
 
-quiet : (story : Story) → Grows story story
+pub quiet : (story : Story) → Grows story story
 quiet story = grown story story (same story) (inl refl)
 
 -- ---- what all have granted
 
-or_true : (a b : Bool) → a ≡ true → (a || b) ≡ true
+pub or_true : (a b : Bool) → a ≡ true → (a || b) ≡ true
 or_true true b is = refl
 or_true false b is = absurd cc
 
-or_right : (a b : Bool) → b ≡ true → (a || b) ≡ true
+pub or_right : (a b : Bool) → b ≡ true → (a || b) ≡ true
 or_right true b is = refl
 or_right false b is = is
 
-both_true : (a b : Bool) → (a && b) ≡ true → (a ≡ true) × (b ≡ true)
+pub both_true : (a b : Bool) → (a && b) ≡ true → (a ≡ true) × (b ≡ true)
 both_true true b is = (refl, is)
 both_true false b is = absurd cc
 
-true_both : (a b : Bool) → a ≡ true → b ≡ true → (a && b) ≡ true
+pub true_both : (a b : Bool) → a ≡ true → b ≡ true → (a && b) ≡ true
 true_both true b one other = other
 true_both false b one other = absurd cc
 
 -- more entries grant what these grant
-grants_more : (id : TxId) (xs ys : List Entry) → steps.has_granted id xs ≡ true → steps.has_granted id (xs ++ ys) ≡ true
+pub grants_more : (id : TxId) (xs ys : List Entry) → steps.has_granted id xs ≡ true → steps.has_granted id (xs ++ ys) ≡ true
 grants_more id [] ys is = absurd cc
 grants_more id (x ∷ xs) ys is = go (steps.is_of id (steps.grant_in x)) (grants_more id xs ys) is
   where
@@ -113,7 +113,7 @@ grants_more id (x ∷ xs) ys is = go (steps.is_of id (steps.grant_in x)) (grants
     go true more one = refl
     go false more rest = more rest
 
-grants_stay : (id : TxId) (xs ys : List Entry) → Adds xs ys → steps.has_granted id xs ≡ true → steps.has_granted id ys ≡ true
+pub grants_stay : (id : TxId) (xs ys : List Entry) → Adds xs ys → steps.has_granted id xs ≡ true → steps.has_granted id ys ≡ true
 grants_stay id xs ys adds is = subst (λ (l : List Entry). steps.has_granted id l ≡ true) (sym adds.1) (grants_more id xs adds.0 is)
 
 all_stay : (before now : Story) (id : TxId) (ms : List ℕ) → ((m : ℕ) → Adds (log_of before m) (log_of now m)) → steps.all_granted before id ms ≡ true → steps.all_granted now id ms ≡ true
@@ -215,7 +215,7 @@ answer_points : (story : Story) (m : ℕ) (sender : Actor) (answer : Option Mess
 answer_points story m sender None = refl
 answer_points story m sender (Some x) = refl
 
-counted_grows : (story : Story) (m : ℕ) (sender : Actor) (e : Option Entry) (answer : Option Message) → Grows story (steps.counted story m sender e answer)
+pub counted_grows : (story : Story) (m : ℕ) (sender : Actor) (e : Option Entry) (answer : Option Message) → Grows story (steps.counted story m sender e answer)
 counted_grows story m sender e answer =
     let one = with_entry story m e in
     let two = with_grant one m (grant_of e) in
@@ -230,7 +230,7 @@ counted_grows story m sender e answer =
     from_story (inr point) = inr (point.0, point.1 ∙ ap (λ (ids : List TxId). ids ++ point.0 ∷ []) (entry_points story m e), point.2)
 
 -- the sites are no part of what grows
-moved : (before now : Story) (m : ℕ) (site : Site) → Grows before now → Grows before (steps.with_site now m site)
+pub moved : (before now : Story) (m : ℕ) (site : Site) → Grows before now → Grows before (steps.with_site now m site)
 moved before now m site grows = record {
   opening = grows.opening;
   begun = grows.begun;
@@ -279,7 +279,7 @@ seated story nodes = record {
   refused = none story.refused;
 }
 
-stepped_grows : (story : Story) (n boot : ℕ) (c : coord.State) (step : rules.Step) → Grows story (steps.stepped story n boot c step)
+pub stepped_grows : (story : Story) (n boot : ℕ) (c : coord.State) (step : rules.Step) → Grows story (steps.stepped story n boot c step)
 stepped_grows story n boot c step =
     acted story (steps.with_actor story n boot (Some step.now)).nodes (map (steps.sent_by n) step.posts) (steps.refused_by c.phase step.now.phase)
 
@@ -315,8 +315,9 @@ given_grows story k how (Some p) = receiver_grows story k how p p.to
 
 -- ---- the other steps
 
-begun_grows : (story : Story) (n : ℕ) (items : List Item) → Grows story (steps.begun_by story n items)
-begun_grows story n items = at_seat_grows story _ (λ boot c.
+pub begins_grows : (story : Story) (n boot : ℕ) (c : coord.State) (items : List Item)
+    → Grows story (record (steps.stepped story n boot c (rules.begun c items)) { begun = story.begun ++ record { id = rules.next_id c; items = items } ∷ [] })
+begins_grows story n boot c items =
     let step = rules.begun c items in
     record {
       opening = refl;
@@ -326,10 +327,13 @@ begun_grows story n items = at_seat_grows story _ (λ boot c.
       committed = inl refl;
       casts = none story.casts;
       refused = more story.refused (steps.refused_by c.phase step.now.phase);
-    }) (slice_get story.nodes n)
+    }
 
-resent_grows : (story : Story) (n : ℕ) → Grows story (steps.resent story n)
-resent_grows story n = at_seat_grows story _ (λ boot c. record {
+begun_grows : (story : Story) (n : ℕ) (items : List Item) → Grows story (steps.begun_by story n items)
+begun_grows story n items = at_seat_grows story _ (λ boot c. begins_grows story n boot c items) (slice_get story.nodes n)
+
+pub resends_grows : (story : Story) (n : ℕ) (c : coord.State) → Grows story (record story { posted = story.posted ++ map (steps.sent_by n) (rules.resent c) })
+resends_grows story n c = record {
   opening = refl;
   begun = none story.begun;
   logs = λ m. none (log_of story m);
@@ -337,9 +341,12 @@ resent_grows story n = at_seat_grows story _ (λ boot c. record {
   committed = inl refl;
   casts = none story.casts;
   refused = none story.refused;
-}) (slice_get story.nodes n)
+}
 
-actor_set : (story : Story) (n boot : ℕ) (c : Option coord.State) → Grows story (steps.with_actor story n boot c)
+resent_grows : (story : Story) (n : ℕ) → Grows story (steps.resent story n)
+resent_grows story n = at_seat_grows story _ (λ boot c. resends_grows story n c) (slice_get story.nodes n)
+
+pub actor_set : (story : Story) (n boot : ℕ) (c : Option coord.State) → Grows story (steps.with_actor story n boot c)
 actor_set story n boot c = seated story (steps.with_actor story n boot c).nodes
 
 fallen_grows : (story : Story) (m : ℕ) (site : Option Site) → Grows story (steps.fallen story m site)

@@ -25,12 +25,12 @@ use Rattle.story_laws.specs.Identifiers.{IsSeated, HasBegun, IsPast, AreDistinct
 
 -- ---- seats
 
-get_same : (xs : List Seat) (n : ℕ) (x y : Seat) → slice_get xs n ≡ Some x → slice_get (slice_set xs n y) n ≡ Some y
+pub get_same : {A : Type 0} (xs : List A) (n : ℕ) (x y : A) → slice_get xs n ≡ Some x → slice_get (slice_set xs n y) n ≡ Some y
 get_same [] n x y is = absurd cc
 get_same (z ∷ xs) zero x y is = refl
 get_same (z ∷ xs) (suc n) x y is = get_same xs n x y is
 
-get_other : (xs : List Seat) (n m : ℕ) (y : Seat) → ¬ (m ≡ n) → slice_get (slice_set xs n y) m ≡ slice_get xs m
+pub get_other : {A : Type 0} (xs : List A) (n m : ℕ) (y : A) → ¬ (m ≡ n) → slice_get (slice_set xs n y) m ≡ slice_get xs m
 get_other [] n m y other = refl
 get_other (z ∷ xs) zero zero y other = absurd (other refl)
 get_other (z ∷ xs) zero (suc m) y other = refl
@@ -191,7 +191,7 @@ answer_same : (story : Story) (m : ℕ) (sender : Actor) (answer : Option Messag
 answer_same story m sender None = record { nodes = refl; begun = refl }
 answer_same story m sender (Some x) = record { nodes = refl; begun = refl }
 
-counted_same : (story : Story) (m : ℕ) (sender : Actor) (e : Option Entry) (answer : Option Message) → HaveSame story (steps.counted story m sender e answer)
+pub counted_same : (story : Story) (m : ℕ) (sender : Actor) (e : Option Entry) (answer : Option Message) → HaveSame story (steps.counted story m sender e answer)
 counted_same story m sender e answer =
     let one = with_entry story m e in
     let two = with_grant one m (grant_of e) in

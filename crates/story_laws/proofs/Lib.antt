@@ -1,3 +1,9 @@
 mod GrowthLemmas
 mod IdentifierLemmas
 mod CastLemmas
+mod BeginningLemmas
+mod CompleteLemmas
+mod SiteLemmas
+mod VoteLemmas
+mod CommitLemmas
+mod OutcomeLemmas

@@ -30,50 +30,41 @@ fn begun(alloc: Global) -> Result<Coordinator, MiniFault> {
     Ok(coordinator)
 }
 
-// A vote with one byte.
-fn granted(alloc: Global) -> Result<Message, NoMemory> {
-    let mut reads = Seq::new(alloc);
-    reads.push(Seq::from_slice(alloc, &[7])?)?;
-    Ok(Message::Voted {
-        id: ID,
-        vote: Vote::Granted(reads),
-    })
-}
-
-// A vote that another minitransaction is in the way of.
-fn locked() -> Message {
-    Message::Voted {
-        id: ID,
-        vote: Vote::Locked { holder: ID },
-    }
-}
-
-// That a participant is through.
-fn done() -> Message {
-    Message::Done { id: ID }
+// A vote with one byte, or one that is not Granted.
+fn vote(alloc: Global, granted: bool) -> Result<Message, NoMemory> {
+    let vote = if granted {
+        let mut reads = Seq::new(alloc);
+        reads.push(Seq::from_slice(alloc, &[7])?)?;
+        Vote::Granted(reads)
+    } else {
+        Vote::Locked { holder: ID }
+    };
+    Ok(Message::Voted { id: ID, vote })
 }
 
 #[test]
 fn votes_of_two_participants_decide(rt: HostRuntime) -> Result<(), Fail> {
-    let vote = granted(rt.alloc())?;
+    let granted = vote(rt.alloc(), true)?;
     let mut coordinator = begun(rt.alloc())?;
-    assert_eq!(rt; coordinator.hear(1, &vote)?.len(), 0);
-    assert_eq!(rt; coordinator.hear(1, &vote)?.len(), 0);
-    assert_eq!(rt; coordinator.hear(0, &vote)?.len(), 2);
+    assert_eq!(rt; coordinator.hear(1, &granted)?.len(), 0);
+    assert_eq!(rt; coordinator.hear(1, &granted)?.len(), 0);
+    assert_eq!(rt; coordinator.hear(0, &granted)?.len(), 2);
     assert!(rt; matches!(coordinator.state(), TxState::Done(Outcome::Committed(_))));
     Ok(())
 }
 
 #[test]
 fn a_decision_is_told_until_all_are_through(rt: HostRuntime) -> Result<(), Fail> {
-    let mut coordinator = begun(rt.alloc())?;
+    let alloc = rt.alloc();
+    let done = Message::Done { id: ID };
+    let mut coordinator = begun(alloc)?;
     assert_eq!(rt; coordinator.resend()?.len(), 2);
-    coordinator.hear(1, &locked())?;
+    coordinator.hear(1, &vote(alloc, false)?)?;
     coordinator.clear();
     assert_eq!(rt; coordinator.resend()?.len(), 2);
-    assert_eq!(rt; coordinator.hear(0, &done())?.len(), 0);
+    assert_eq!(rt; coordinator.hear(0, &done)?.len(), 0);
     assert_eq!(rt; coordinator.resend()?.len(), 1);
-    assert_eq!(rt; coordinator.hear(1, &done())?.len(), 2);
+    assert_eq!(rt; coordinator.hear(1, &done)?.len(), 2);
     assert_eq!(rt; coordinator.resend()?.len(), 0);
     coordinator.give_up();
     assert_eq!(rt; coordinator.state(), &TxState::Idle);
