@@ -1,0 +1,4 @@
+mod ListLemmas
+mod AnswerLemmas
+mod WorkLemmas
+mod CaseLemmas
