@@ -1,0 +1,5 @@
+mod OrderLemmas
+mod WorkLemmas
+mod KeptLemmas
+mod AnswerLemmas
+mod DoneLemmas
