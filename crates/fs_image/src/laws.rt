@@ -13,8 +13,8 @@ ghost use Rattle.fs_image.specs.Written.{WrittenIsShown};
 
 use fs_layout::{BITMAPS_AT, INODE_BITMAP_AT, INODES_AT, SUPERBLOCK_AT};
 
-/// Where only the files of edits are touched, and each of these is shown as the edits leave it, the tree after the edits
-/// is shown.
+/// Where only the files of edits are touched, and each of these is shown as the edits leave it, the tree after the
+/// edits is shown.
 pub fn edits_are_shown()
     ensures { EditsAreShown }
 {}
@@ -64,8 +64,8 @@ pub fn only_is_inverse()
     ensures { OnlyIsInverse }
 {}
 
-/// The first free number from a memory node on is that of the lowest free bit of the maps of the inodes, from there on in
-/// a circle.
+/// The first free number from a memory node on is that of the lowest free bit of the maps of the inodes, from there
+/// on in a circle.
 pub fn first_free_is_lowest()
     ensures { FirstFreeIsLowest }
 {}

@@ -1,7 +1,7 @@
 //! What blocks are as a file system: by which owners of its blocks a flat memory stands for a tree.
 //!
-//! There is no code here: `specs/Stands.antt` says when a flat memory stands for a tree, and each function below has one
-//! law as its contract (`docs/PROMISES.md`, "Images").
+//! There is no code here: `specs/Stands.antt` says when a flat memory stands for a tree, and each function below has
+//! one law as its contract (`docs/PROMISES.md`, "Images").
 #![tactic(auto)]
 
 mod laws;
