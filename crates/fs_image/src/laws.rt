@@ -9,6 +9,7 @@ ghost use Rattle.fs_image.specs.Owners.{OnlyIsInverse, TakenIsInverse};
 ghost use Rattle.fs_image.specs.Records.{ReadChainsAreChains, ReadSlotsAreSlots, SetBitsAreCounted, SlotsAreFoundAlike};
 ghost use Rattle.fs_image.specs.Regions.{NumbersAreApart, RegionsAreApart, RegionsAreInside, WritesStayApart};
 ghost use Rattle.fs_image.specs.Stamps.{StampIsInRecord, StampsTell};
+ghost use Rattle.fs_image.specs.Words.{RecordsHaveBytes};
 ghost use Rattle.fs_image.specs.Written.{WrittenIsShown};
 
 use fs_layout::{BITMAPS_AT, INODE_BITMAP_AT, INODES_AT, SUPERBLOCK_AT};
@@ -114,4 +115,9 @@ pub fn set_bits_are_counted()
 /// rules.
 pub fn slots_are_found_alike()
     ensures { SlotsAreFoundAlike }
+{}
+
+/// Each record of a good tree whose numbers fit their words has bytes.
+pub fn records_have_bytes()
+    ensures { RecordsHaveBytes }
 {}

@@ -9,7 +9,7 @@ mod laws;
 pub use laws::{
     edits_are_shown, first_free_is_lowest, free_blocks_are_free_bits, fresh_stands,
     lowest_is_found, numbers_are_apart, one_tree, only_is_inverse, read_chains_are_chains,
-    read_slots_are_slots, regions_are_apart, regions_are_inside, regions_have_constants,
-    set_bits_are_counted, slots_are_found_alike, stamp_is_in_record, stamps_tell, taken_is_inverse,
-    writes_stay_apart, written_is_shown,
+    read_slots_are_slots, records_have_bytes, regions_are_apart, regions_are_inside,
+    regions_have_constants, set_bits_are_counted, slots_are_found_alike, stamp_is_in_record,
+    stamps_tell, taken_is_inverse, writes_stay_apart, written_is_shown,
 };
