@@ -47,6 +47,14 @@ impl References {
         }
     }
 
+    /// How many there are: always [`REFERENCES_PER_CHAIN`].
+    pub fn len(&self) -> usize
+        ensures count { result ≡ 510 }
+        ensures sized { length self.now ≡ 510 }
+    {
+        self.bytes[..].len() / REFERENCE_BYTES
+    }
+
     /// The reference, or none, at an index below [`REFERENCES_PER_CHAIN`].
     pub fn get(&self, index: usize) -> Option<Reference>
         requires { index < 510 }

@@ -11,7 +11,7 @@ use Rattle.std.proofs.lemmas.Option.{none-some, slice_get_within, slice_get_read
 use Rattle.fs_rules.specs.declared.entry.Entry.{Entry}
 use Rattle.fs_rules.specs.File.{BlockMap}
 use Rattle.fs_rules.specs.Good.{IsStored}
-use Rattle.fs_good.specs.Places.{Below, IsFirst, IsStoredBlock}
+use Rattle.fs_good.specs.Places.{AreDistinct, Below, IsFirst, IsStoredBlock}
 
 -- nothing follows from no, and what cannot be is answered by it
 pub is_no : {P : Type 0} → (P → ⊥) → (IsTrue false → P) × (P → IsTrue false)
@@ -22,33 +22,32 @@ is_no not = (λ f. absurd (true≢false (sym f)), λ p. absurd (not p))
 pub below_none : (P : Entry → Type 0) (slots : List (Option Entry)) → Below P slots 0
 below_none P slots i e less is = absurd (omega (arith, less))
 
-module _ (P : Entry → Type 0) (slots : List (Option Entry)) (i : ℕ) (s : Option Entry) (within : i < length slots) (is : s ≡ get_or slots i s) where
-  there : slice_get slots i ≡ Some s
+-- a loop's slot is the one at its place
+module _ (slots : List (Option Entry)) (i : ℕ) (s : Option Entry) (within : i < length slots) (is : s ≡ get_or slots i s) where
+  pub there : slice_get slots i ≡ Some s
   there = slice_get_read slots (length slots) i s refl within is
 
-  at_place : (j : ℕ) (e : Entry) → j ≡ i → slice_get slots j ≡ Some (Some e) → s ≡ Some e
+  pub at_place : (j : ℕ) (e : Entry) → j ≡ i → slice_get slots j ≡ Some (Some e) → s ≡ Some e
   at_place j e same found = ap (λ o. value o) (sym there ∙ ap (slice_get slots) (sym same) ∙ found)
     where
       value : Option (Option Entry) → Option Entry
       value None = None
       value (Some x) = x
 
+module _ (P : Entry → Type 0) (slots : List (Option Entry)) (i : ℕ) (s : Option Entry) (within : i < length slots) (is : s ≡ get_or slots i s) where
   pub below_more : ((e : Entry) → s ≡ Some e → P e) → Below P slots i → Below P slots (i + 1)
   below_more here below j e less found = elim (cases_lt j i) [
     | inl before ↦ below j e before found
-    | inr not_before ↦ here e (at_place j e (omega (arith, less, not_before)) found)
+    | inr not_before ↦ here e (at_place slots i s within is j e (omega (arith, less, not_before)) found)
   ]
 
   pub below_not : (((e : Entry) → s ≡ Some e → P e) → ⊥) → ((j : ℕ) (e : Entry) → slice_get slots j ≡ Some (Some e) → P e) → ⊥
-  below_not not_here all = not_here (λ e found. all i e (there ∙ ap Some found))
+  below_not not_here all = not_here (λ e found. all i e (there slots i s within is ∙ ap Some found))
 
 pub below_whole : (P : Entry → Type 0) (slots : List (Option Entry)) (end : ℕ) → length slots ≤ end → Below P slots end → (j : ℕ) (e : Entry) → slice_get slots j ≡ Some (Some e) → P e
 below_whole P slots end whole below j e found = let less = slice_get_within slots j (Some e) found in below j e (omega (arith, less, whole)) found
 
 -- names of which each is none of those before it are different
-abbrev AreDistinct : List (Option Entry) → Type 0
-AreDistinct slots = (i j : ℕ) (e d : Entry) → slice_get slots i ≡ Some (Some e) → slice_get slots j ≡ Some (Some d) → e.name ≡ d.name → i ≡ j
-
 pub firsts_distinct : (slots : List (Option Entry)) (end : ℕ) → length slots ≤ end → ((i : ℕ) → i < end → IsFirst slots i) → AreDistinct slots
 firsts_distinct slots end whole firsts i j e d at to same = elim (cases_lt i j) [
   | inl less ↦ let within = slice_get_within slots j (Some d) to in absurd (firsts j (omega (arith, within, whole)) d to i e less at same)

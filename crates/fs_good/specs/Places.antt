@@ -1,5 +1,7 @@
 -- What a file of a good tree is, beside how often it is named and where its parents lead.
-use Rattle.std.specs.Prelude.{◌≡◌, ℕ, ◌+◌, ◌*◌, ◌<◌, ◌≤◌, List, length, slice_get, slice_index, Option, Some, IsSome}
+use denote.Ref.{Bor}
+use Rattle.std.specs.Prelude.{◌≡◌, ℕ, ◌+◌, ◌*◌, ◌<◌, ◌≤◌, Bool, true, not, ◌||◌, List, length, slice_get, slice_index, bytes_eq, Option, Some, None, IsSome}
+use Rattle.std.specs.List.{list_any}
 use Rattle.std.specs.FinMap as table
 use Rattle.sfs_base.specs.Reading.{IsBytes}
 use Rattle.fs_rules.specs.declared.content.Content.{Content}
@@ -26,6 +28,23 @@ Below P slots end = (i : ℕ) (e : Entry) → i < end → slice_get slots i ≡ 
 -- the name of a slot is none of those before it
 abbrev pub IsFirst : List (Option Entry) → ℕ → Type 0
 IsFirst slots i = (d : Entry) → slice_get slots i ≡ Some (Some d) → Below (λ e. e.name ≡ d.name → ⊥) slots i
+
+-- no two slots have the same name
+abbrev pub AreDistinct : List (Option Entry) → Type 0
+AreDistinct slots = (i j : ℕ) (e d : Entry) → slice_get slots i ≡ Some (Some e) → slice_get slots j ≡ Some (Some d) → e.name ≡ d.name → i ≡ j
+
+-- whether a name is one of these
+abbrev pub knows : List (Bor (List ℕ)) → List ℕ → Bool
+knows names name = list_any (λ k. bytes_eq name k.now) names
+
+-- a name is one of these from now on; whether it was none of them before
+abbrev pub IsNameTaken : List (Bor (List ℕ)) → List (Bor (List ℕ)) → List ℕ → Bool → Type 0
+IsNameTaken old new name is_new = (is_new ≡ not (knows old name)) × ((other : List ℕ) → knows new other ≡ (bytes_eq other name || knows old other))
+
+-- the same of the name of a slot, if it has one
+abbrev pub IsTaken : List (Bor (List ℕ)) → List (Bor (List ℕ)) → Option Entry → Bool → Type 0
+IsTaken old new None is_new = (is_new ≡ true) × ((other : List ℕ) → knows new other ≡ knows old other)
+IsTaken old new (Some e) is_new = IsNameTaken old new e.name is_new
 
 -- a slot of a directory names a live file; a directory that it names has this one as its parent
 abbrev pub IsUnder : PlainTree → ℕ → Entry → Type 0

@@ -22,7 +22,8 @@ pub(crate) fn are_named(alloc: Global, tree: &PlainTree) -> Result<bool, NoMemor
 
 // Whether each file is counted as often as it has to be named.
 fn are_due(counts: &Table<u32>, tree: &PlainTree) -> bool
-    ensures { IsTrue result ↔ ((n : ℕ) (f : File) → table.get tree.now.files n ≡ Some f → count_in counts.now n ≡ due_of n f f.content) }
+    ensures { IsTrue result ↔ ((n : ℕ) (f : File) → table.get tree.now.files n ≡ Some f
+        → count_in counts.now n ≡ due_of n f f.content) }
 {
     for (number, file) in tree.files.iter() {
         if !is_due(counts, *number, file) {
@@ -69,7 +70,8 @@ fn count_names(alloc: Global, tree: &PlainTree) -> Result<Table<u32>, NoMemory>
 
 // Counts the names of a file.
 fn count_file(counts: &mut Table<u32>, content: &Content) -> Result<(), NoMemory>
-    ensures { OnOk result ((n : ℕ) → IsCapped (count_in counts.new n) (count_in counts.old n + count_by (names_file n) (slots_of content.now))) }
+    ensures { OnOk result ((n : ℕ) → IsCapped (count_in counts.new n)
+        (count_in counts.old n + count_by (names_file n) (slots_of content.now))) }
 {
     match content {
         Content::Directory { slots, .. } => count_slots(counts, slots.as_slice()),
@@ -79,7 +81,8 @@ fn count_file(counts: &mut Table<u32>, content: &Content) -> Result<(), NoMemory
 
 // Counts the names in slots.
 fn count_slots(counts: &mut Table<u32>, slots: &[Option<Entry>]) -> Result<(), NoMemory>
-    ensures { OnOk result ((n : ℕ) → IsCapped (count_in counts.new n) (count_in counts.old n + count_by (names_file n) slots.now)) }
+    ensures { OnOk result ((n : ℕ) → IsCapped (count_in counts.new n)
+        (count_in counts.old n + count_by (names_file n) slots.now)) }
 {
     for slot in slots {
         count_slot(counts, slot)?;
@@ -89,7 +92,8 @@ fn count_slots(counts: &mut Table<u32>, slots: &[Option<Entry>]) -> Result<(), N
 
 // Counts the name in a slot, if there is one.
 fn count_slot(counts: &mut Table<u32>, slot: &Option<Entry>) -> Result<(), NoMemory>
-    ensures { OnOk result ((n : ℕ) → IsCapped (count_in counts.new n) (count_in counts.old n + count_by (names_file n) (slot.now ∷ []))) }
+    ensures { OnOk result ((n : ℕ) → IsCapped (count_in counts.new n)
+        (count_in counts.old n + count_by (names_file n) (slot.now ∷ []))) }
 {
     match slot {
         Some(entry) => count_one(counts, entry.file),

@@ -1,11 +1,11 @@
 //! Whether a tree is a file system.
 //!
-//! `IsGood` of `fs_rules` says what a file system is. [`is_good`] decides it of any tree. No file is compared with another
-//! one: its time grows with the files, slots and blocks and the logarithm of their number. The names of one directory alone
-//! are compared with each other, which is the square of its slots, of which there are at most 7,650.
+//! `IsGood` of `fs_rules` says what a file system is. [`is_good`] decides it of any tree. No file is compared with
+//! another one: its time grows with the files, slots and blocks and the logarithm of their number. The names of one
+//! directory are put into a set of references; where there is no memory for it, they are compared with each other.
 //!
-//! - Each file is looked at by itself (`place`, `own`): its number, mode, links, size and blocks or slots. A slot that names
-//!   a directory has to lie in the directory that this one has as its parent.
+//! - Each file is looked at by itself (`place`, `own`): its number, mode, links, size and blocks or slots. A slot
+//!   that names a directory has to lie in the directory that this one has as its parent.
 //! - How often each number is named is counted in one pass over all slots (`counts`). A directory that is named once is
 //!   then named by its parent.
 //! - Parents lead to the root where each directory is reached from it by the slots (`reached`).

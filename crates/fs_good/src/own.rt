@@ -5,6 +5,7 @@ ghost use Rattle.fs_laws.proofs.WholeLemmas.{IsOwn, IsOwnContent, IsSlotList};
 use crate::slots::is_slot_list;
 use crate::stored::is_stored;
 use fs_rules::{BLOCK_BYTES, Blocks, Content, Entry, File, SLOTS_PER_BLOCK};
+use std::alloc::Global;
 
 /// The bits of a mode.
 const MAX_MODE: u32 = 0o7777;
@@ -19,20 +20,20 @@ const MAX_FILE_BYTES: u32 = 16_711_680;
 const MAX_LINK_BYTES: u32 = 1_024;
 
 // Whether a file is in order, as far as it itself tells.
-pub(crate) fn is_own(file: &File) -> bool
+pub(crate) fn is_own(alloc: Global, file: &File) -> bool
     ensures { IsTrue result ↔ IsOwn file.now }
 {
-    file.mode <= MAX_MODE && file.links <= MAX_LINKS && has_content(file)
+    file.mode <= MAX_MODE && file.links <= MAX_LINKS && has_content(alloc, file)
 }
 
 // Whether what it contains fits its size and links.
-fn has_content(file: &File) -> bool
+fn has_content(alloc: Global, file: &File) -> bool
     ensures { IsTrue result ↔ IsOwnContent file.now file.now.content }
 {
     match &file.content {
         Content::Regular(blocks) => has_blocks(file.size, MAX_FILE_BYTES, file.links, blocks),
         Content::Link(blocks) => has_blocks(file.size, MAX_LINK_BYTES, file.links, blocks),
-        Content::Directory { slots, .. } => has_slots(file.size, slots.as_slice()),
+        Content::Directory { slots, .. } => has_slots(alloc, file.size, slots.as_slice()),
     }
 }
 
@@ -44,8 +45,9 @@ fn has_blocks(size: u32, most: u32, links: u32, blocks: &Blocks) -> bool
 }
 
 // Whether a directory of this size may have these slots.
-fn has_slots(size: u32, slots: &[Option<Entry>]) -> bool
+fn has_slots(alloc: Global, size: u32, slots: &[Option<Entry>]) -> bool
     ensures { IsTrue result ↔ ((size ≡ 4096 * (length slots.now / 15)) × IsSlotList slots.now) }
 {
-    is_slot_list(slots) && size as usize == BLOCK_BYTES as usize * (slots.len() / SLOTS_PER_BLOCK)
+    is_slot_list(alloc, slots)
+        && size as usize == BLOCK_BYTES as usize * (slots.len() / SLOTS_PER_BLOCK)
 }

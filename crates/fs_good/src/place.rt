@@ -11,17 +11,18 @@ ghost use Rattle.fs_good.specs.Places.{AreInPlace, AreUnder, HasLinksFor, IsInPl
 use crate::own::is_own;
 use crate::shape::parent_at;
 use fs_rules::{Content, Entry, File, Geometry, MAX_INODES, PlainTree};
+use std::alloc::Global;
 
 /// The links of a directory without subdirectories.
 const LINKS_OF_NONE: usize = 2;
 
 // Whether each file is in place.
-pub(crate) fn are_in_place(tree: &PlainTree) -> bool
+pub(crate) fn are_in_place(alloc: Global, tree: &PlainTree) -> bool
     requires { IsWithinLimits tree.now.geometry }
     ensures { IsTrue result ↔ AreInPlace tree.now }
 {
     for (number, file) in tree.files.iter() {
-        if !is_in_place(tree, *number, file) {
+        if !is_in_place(alloc, tree, *number, file) {
             return false;
         }
     }
@@ -29,18 +30,19 @@ pub(crate) fn are_in_place(tree: &PlainTree) -> bool
 }
 
 // Whether the file with this number is in place.
-fn is_in_place(tree: &PlainTree, number: u32, file: &File) -> bool
+fn is_in_place(alloc: Global, tree: &PlainTree, number: u32, file: &File) -> bool
     requires { IsWithinLimits tree.now.geometry }
     ensures { IsTrue result ↔ IsInPlace tree.now number file.now }
 {
-    is_number(&tree.geometry, number) && is_in_order(tree, number, file)
+    is_number(&tree.geometry, number) && is_in_order(alloc, tree, number, file)
 }
 
 // Whether the file with this number is in place, but for its number.
-fn is_in_order(tree: &PlainTree, number: u32, file: &File) -> bool
-    ensures { IsTrue result ↔ ((HasLinksFor tree.now file.now.links file.now.content × AreUnder tree.now number (slots_of file.now.content)) × IsOwn file.now) }
+fn is_in_order(alloc: Global, tree: &PlainTree, number: u32, file: &File) -> bool
+    ensures { IsTrue result ↔ ((HasLinksFor tree.now file.now.links file.now.content
+        × AreUnder tree.now number (slots_of file.now.content)) × IsOwn file.now) }
 {
-    fits_tree(tree, number, &file.content, file.links) && is_own(file)
+    fits_tree(tree, number, &file.content, file.links) && is_own(alloc, file)
 }
 
 // Whether it is a number of this cluster.
@@ -56,7 +58,8 @@ pub(crate) fn is_number(geometry: &Geometry, number: u32) -> bool
 // Whether each name of a directory names a live file, each directory that it names has it as its parent, and its links
 // tell how many these are.
 fn fits_tree(tree: &PlainTree, number: u32, content: &Content, links: u32) -> bool
-    ensures { IsTrue result ↔ (HasLinksFor tree.now links content.now × AreUnder tree.now number (slots_of content.now)) }
+    ensures { IsTrue result ↔ (HasLinksFor tree.now links content.now
+        × AreUnder tree.now number (slots_of content.now)) }
 {
     match content {
         Content::Directory { slots, .. } => fits_slots(tree, number, slots.as_slice(), links),
@@ -102,7 +105,8 @@ fn is_under(tree: &PlainTree, number: u32, slot: &Option<Entry>) -> bool
 
 // Whether a file is live, and has this parent where it is a directory.
 fn lies_under(tree: &PlainTree, number: u32, file: u32) -> bool
-    ensures { IsTrue result ↔ (IsSome (table.get tree.now.files file) × ((p : ℕ) → parent_at tree.now file ≡ Some p → p ≡ number)) }
+    ensures { IsTrue result ↔ (IsSome (table.get tree.now.files file)
+        × ((p : ℕ) → parent_at tree.now file ≡ Some p → p ≡ number)) }
 {
     tree.files.get(file).is_some() && parent_at(tree, file).unwrap_or(number) == number
 }

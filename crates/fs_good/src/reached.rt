@@ -55,7 +55,8 @@ fn look_into(
     work: &mut Vec<u32>,
     number: u32,
 ) -> Result<(), NoMemory>
-    ensures { OnOk result (Reaches (slots_in tree.now number) (length (slots_in tree.now number)) unknown.old work.old.items unknown.new work.new.items) }
+    ensures { OnOk result (Reaches (slots_in tree.now number)
+        (length (slots_in tree.now number)) unknown.old work.old.items unknown.new work.new.items) }
 {
     let Some(file) = tree.files.get(number) else {
         return Ok(());

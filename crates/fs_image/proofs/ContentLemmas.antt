@@ -12,6 +12,7 @@ use Rattle.fs_rules.specs.declared.content.Content.{Content}
 use Rattle.fs_rules.specs.declared.content.Content.TheVariants.{Regular, Link, Directory}
 use Rattle.fs_rules.specs.declared.entry.Entry.{Entry}
 use Rattle.fs_rules.specs.File.{BlockMap, kind_of, slots_of, parent_of, greatest, last_of, chains_up_to}
+use Rattle.fs_image.specs.Records.{NameFiles}
 use Rattle.fs_image.specs.Parts.{chains_of, is_stored, slot_of, slots_at, HoldsBlock}
 
 -- ---- a stored block has its chaining block
@@ -41,12 +42,8 @@ stored_chains (Link blocks) i stored = map_chains blocks i stored
 
 -- ---- the content by its blocks
 
--- slots that name no file 0
-pub record NamesFiles (slots : List (Option Entry)) : Type 0 where
-  pub files : (i : ℕ) (e : Entry) → slice_get slots i ≡ Some (Some e) → e.file ≢ 0
-
-tail_names : (s : Option Entry) (slots : List (Option Entry)) → NamesFiles (s ∷ slots) → NamesFiles slots
-tail_names s slots names = record { files = λ i e is. names.files (suc i) e is }
+pub tail_names : (s : Option Entry) (slots : List (Option Entry)) → NameFiles (s ∷ slots) → NameFiles slots
+tail_names s slots names = λ i e is. names (suc i) e is
 
 slot_one : (s r : Option Entry) → ((e : Entry) → s ≡ Some e → e.file ≢ 0) → ((e : Entry) → r ≡ Some e → e.file ≢ 0) → slot_of s ≡ slot_of r → s ≡ r
 slot_one None None fs fr same = refl
@@ -62,13 +59,13 @@ rest_of : List Slot → List Slot
 rest_of [] = []
 rest_of (x ∷ xs) = xs
 
-pub slots_one : (xs ys : List (Option Entry)) → NamesFiles xs → NamesFiles ys → map slot_of xs ≡ map slot_of ys → xs ≡ ys
+pub slots_one : (xs ys : List (Option Entry)) → NameFiles xs → NameFiles ys → map slot_of xs ≡ map slot_of ys → xs ≡ ys
 unfolding head_of rest_of
 slots_one [] [] fx fy same = refl
 slots_one [] (y ∷ ys) fx fy same = absurd (omega (arith, ap length same))
 slots_one (x ∷ xs) [] fx fy same = absurd (omega (arith, ap length same))
 slots_one (x ∷ xs) (y ∷ ys) fx fy same =
-    let here : x ≡ y = slot_one x y (λ e is. fx.files 0 e (ap Some is)) (λ e is. fy.files 0 e (ap Some is)) (ap (head_of (slot_of x)) same) in
+    let here : x ≡ y = slot_one x y (λ e is. fx 0 e (ap Some is)) (λ e is. fy 0 e (ap Some is)) (ap (head_of (slot_of x)) same) in
     let rest : xs ≡ ys = slots_one xs ys (tail_names x xs fx) (tail_names y ys fy) (ap rest_of same) in
     λ i. here i ∷ rest i
 
@@ -106,32 +103,32 @@ by_fifteens (suc n) xs ys sx sy same =
     (λ i below. ap (take 15) (sym (drop_next i xs)) ∙ same (i + 1) (omega (arith, below)) ∙ ap (take 15) (drop_next i ys)) in
     sym (take-append-drop 15 xs) ∙ (λ i. first i ++ rest i) ∙ take-append-drop 15 ys
 
-names_later : (n : ℕ) (slots : List (Option Entry)) → NamesFiles slots → NamesFiles (drop n slots)
+names_later : (n : ℕ) (slots : List (Option Entry)) → NameFiles slots → NameFiles (drop n slots)
 names_later zero slots names = names
 names_later (suc n) [] names = names
 names_later (suc n) (s ∷ slots) names = names_later n slots (tail_names s slots names)
 
-names_of_both : (s : Option Entry) (slots : List (Option Entry)) → ((e : Entry) → s ≡ Some e → e.file ≢ 0) → NamesFiles slots → NamesFiles (s ∷ slots)
-names_of_both s slots here names = record { files = each }
+names_of_both : (s : Option Entry) (slots : List (Option Entry)) → ((e : Entry) → s ≡ Some e → e.file ≢ 0) → NameFiles slots → NameFiles (s ∷ slots)
+names_of_both s slots here names = each
   where
     some_one : (o : Option Entry) (e : Entry) → Some o ≡ Some (Some e) → o ≡ Some e
     some_one o e is = ap (λ x. unwrap_or x None) is
 
     each : (i : ℕ) (e : Entry) → slice_get (s ∷ slots) i ≡ Some (Some e) → e.file ≢ 0
     each zero e is = here e (some_one s e is)
-    each (suc i) e is = names.files i e is
+    each (suc i) e is = names i e is
 
-names_first : (n : ℕ) (slots : List (Option Entry)) → NamesFiles slots → NamesFiles (take n slots)
-names_first zero slots names = record { files = λ i e is. absurd (none-some (Some e) is) }
+names_first : (n : ℕ) (slots : List (Option Entry)) → NameFiles slots → NameFiles (take n slots)
+names_first zero slots names = λ i e is. absurd (none-some (Some e) is)
 names_first (suc n) [] names = names
-names_first (suc n) (s ∷ slots) names = names_of_both s (take n slots) (λ e is. names.files 0 e (ap Some is)) (names_first n slots (tail_names s slots names))
+names_first (suc n) (s ∷ slots) names = names_of_both s (take n slots) (λ e is. names 0 e (ap Some is)) (names_first n slots (tail_names s slots names))
 
 -- ---- the content
 
 -- what makes the content of a good tree's file: whole blocks of slots, which name no file 0
 pub record IsWhole (c : Content) : Type 0 where
   pub sized : length (slots_of c) ≡ 15 * (length (slots_of c) / 15)
-  pub names : NamesFiles (slots_of c)
+  pub names : NameFiles (slots_of c)
 
 -- the blocks of a content, by what is held there
 abbrev pub Found : (ℕ → Option (List ℕ)) → Content → Type 0
@@ -162,7 +159,7 @@ lengths_one a b same = elim (cases_order a b) [
     not_below : (n : ℕ) → nat_lt n n ≡ false
     not_below n = le-ltb n n (omega arith)
 
-fifteen_one : (found : ℕ → Option (List ℕ)) (xs ys : List (Option Entry)) (parent other i : ℕ) (o : Option (List ℕ)) → found i ≡ o → NamesFiles xs → NamesFiles ys
+fifteen_one : (found : ℕ → Option (List ℕ)) (xs ys : List (Option Entry)) (parent other i : ℕ) (o : Option (List ℕ)) → found i ≡ o → NameFiles xs → NameFiles ys
     → Found found (Directory xs parent) → Found found (Directory ys other) → i < length xs / 15 → slots_at xs i ≡ slots_at ys i
 fifteen_one found xs ys parent other i None is nx ny fx fy below = absurd (true≢false (sym (lt-ltb i (length xs / 15) below) ∙ sym (fx i).0 ∙ ap is_some is))
 fifteen_one found xs ys parent other i (Some bytes) is nx ny fx fy below =

@@ -12,3 +12,4 @@ pub mod CountLemmas
 pub mod WrittenLemmas
 pub mod StampLemmas
 pub mod RecordLemmas
+pub mod WordsLemmas

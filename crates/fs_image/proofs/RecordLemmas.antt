@@ -16,6 +16,7 @@ use Rattle.fs_dir.specs.Slots.{IsSlot, FitsSlot, AreSlots, SpellsSlots, in_use}
 use Rattle.fs_rules.specs.declared.entry.Entry.{Entry}
 use Rattle.fs_rules.specs.Slots as rules
 use Rattle.fs_image.specs.Parts.{slot_of}
+use Rattle.fs_image.proofs.ContentLemmas.{tail_names}
 use Rattle.fs_image.specs.Records.{ReadChainsAreChains, ReadSlotsAreSlots, IsSet, SetBitsAreCounted, NameFiles, SlotsAreFoundAlike}
 
 -- ---- what is read can be written
@@ -68,9 +69,6 @@ set_counted old new bit bits below = (
 )
 
 -- ---- names
-
-tail_names : (s : Option Entry) (slots : List (Option Entry)) → NameFiles (s ∷ slots) → NameFiles slots
-tail_names s slots names = λ i e is. names (suc i) e is
 
 -- two tests that agree find the first at one place
 prefix_alike : (p : Slot → Bool) (q : Option Entry → Bool) (slots : List (Option Entry)) → NameFiles slots

@@ -39,14 +39,14 @@ no_zero t good n None is live = absurd (true≢false (sym live))
 no_zero t good n (Some f) is live = λ none. let number = (good.files n f is).number in omega (arith, none, number.is)
 
 whole : (t : PlainTree) → IsGood t → (n : ℕ) (f : File) (c : Content) → IsInOrder t n f c → IsWhole c
-whole t good n f (Regular blocks) order = record { sized = refl; names = record { files = λ i e is. absurd (none-some (Some e) is) } }
+whole t good n f (Regular blocks) order = record { sized = refl; names = λ i e is. absurd (none-some (Some e) is) }
 whole t good n f (Directory slots parent) order =
     let are : AreSlots t slots = order.1 in
     record {
       sized = omega (arith, are.whole);
-      names = record { files = λ i e is. no_zero t good e.file (table.get t.files e.file) refl (are.names i e is).1 };
+      names = λ i e is. no_zero t good e.file (table.get t.files e.file) refl (are.names i e is).1;
     }
-whole t good n f (Link blocks) order = record { sized = refl; names = record { files = λ i e is. absurd (none-some (Some e) is) } }
+whole t good n f (Link blocks) order = record { sized = refl; names = λ i e is. absurd (none-some (Some e) is) }
 
 some_kind : (c : Content) → kind_of c ≡ 0 → ⊥
 some_kind (Regular blocks) none = omega (arith, none)

@@ -11,3 +11,4 @@ pub mod Counts
 pub mod Written
 pub mod Stamps
 pub mod Records
+pub mod Words

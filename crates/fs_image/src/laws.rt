@@ -9,12 +9,13 @@ ghost use Rattle.fs_image.specs.Owners.{OnlyIsInverse, TakenIsInverse};
 ghost use Rattle.fs_image.specs.Records.{ReadChainsAreChains, ReadSlotsAreSlots, SetBitsAreCounted, SlotsAreFoundAlike};
 ghost use Rattle.fs_image.specs.Regions.{NumbersAreApart, RegionsAreApart, RegionsAreInside, WritesStayApart};
 ghost use Rattle.fs_image.specs.Stamps.{StampIsInRecord, StampsTell};
+ghost use Rattle.fs_image.specs.Words.{RecordsHaveBytes};
 ghost use Rattle.fs_image.specs.Written.{WrittenIsShown};
 
 use fs_layout::{BITMAPS_AT, INODE_BITMAP_AT, INODES_AT, SUPERBLOCK_AT};
 
-/// Where only the files of edits are touched, and each of these is shown as the edits leave it, the tree after the edits
-/// is shown.
+/// Where only the files of edits are touched, and each of these is shown as the edits leave it, the tree after the
+/// edits is shown.
 pub fn edits_are_shown()
     ensures { EditsAreShown }
 {}
@@ -64,8 +65,8 @@ pub fn only_is_inverse()
     ensures { OnlyIsInverse }
 {}
 
-/// The first free number from a memory node on is that of the lowest free bit of the maps of the inodes, from there on in
-/// a circle.
+/// The first free number from a memory node on is that of the lowest free bit of the maps of the inodes, from there
+/// on in a circle.
 pub fn first_free_is_lowest()
     ensures { FirstFreeIsLowest }
 {}
@@ -114,4 +115,9 @@ pub fn set_bits_are_counted()
 /// rules.
 pub fn slots_are_found_alike()
     ensures { SlotsAreFoundAlike }
+{}
+
+/// Each record of a good tree whose numbers fit their words has bytes.
+pub fn records_have_bytes()
+    ensures { RecordsHaveBytes }
 {}

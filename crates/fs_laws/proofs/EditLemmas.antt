@@ -217,7 +217,7 @@ apt_all now t e [] apart h = tt
 apt_all now t e (d ∷ es) apart h = (apt_edit now t e d apart.0 h.0, apt_all now t e es apart.1 h.1)
 
 -- what holds of all that a map has, and of what is put into it
-put_holds : {X : Type 0} (P : ℕ → X → Type 0) (m : FinMap nat_cmp X) (k : ℕ) (v : X) → ((n : ℕ) (f : X) → table.get m n ≡ Some f → P n f) → P k v
+pub put_holds : {X : Type 0} (P : ℕ → X → Type 0) (m : FinMap nat_cmp X) (k : ℕ) (v : X) → ((n : ℕ) (f : X) → table.get m n ≡ Some f → P n f) → P k v
     → (n : ℕ) (f : X) → table.get (table.insert m k v) n ≡ Some f → P n f
 put_holds P m k v all new n f is = elim (cases_eq n k) [
   | inl same ↦
@@ -228,7 +228,7 @@ put_holds P m k v all new n f is = elim (cases_eq n k) [
 ]
 
 -- and what is taken from it
-left_holds : {X : Type 0} (P : ℕ → X → Type 0) (m : FinMap nat_cmp X) (k : ℕ) → ((n : ℕ) (f : X) → n ≢ k → table.get m n ≡ Some f → P n f)
+pub left_holds : {X : Type 0} (P : ℕ → X → Type 0) (m : FinMap nat_cmp X) (k : ℕ) → ((n : ℕ) (f : X) → n ≢ k → table.get m n ≡ Some f → P n f)
     → (n : ℕ) (f : X) → table.get (table.remove m k) n ≡ Some f → P n f
 left_holds P m k all n f is = elim (cases_eq n k) [
   | inl same ↦ absurd (let e : ◌≡◌ {A = Option _} None (Some f) = sym (get_gone m k) ∙ ap (table.get (table.remove m k)) (sym same) ∙ is in cc)

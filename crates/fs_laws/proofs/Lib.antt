@@ -22,3 +22,4 @@ pub mod AcrossLemmas
 pub mod RenameLemmas
 pub mod WriteLemmas
 pub mod GoodLemmas
+pub mod WordsLemmas

@@ -1,5 +1,6 @@
 //! Laws of the plain tree.
 ghost use Rattle.fs_laws.specs.Laws.{FreshIsGood, GoodStaysGood, AnswersCanBeTold};
+ghost use Rattle.fs_laws.specs.Words.{FreshIsInWords, WordsStayWords};
 
 /// A cluster begins with a file system.
 pub fn fresh_is_good()
@@ -16,4 +17,12 @@ pub fn good_stays_good()
 /// names, its path, its data and its entries are within their limits.
 pub fn answers_can_be_told()
     ensures { AnswersCanBeTold }
+{}
+
+/// A cluster begins with numbers, moments and counts that fit the words of its records, and every call of a caller and a
+/// moment in words leaves such a tree: a change number that has reached its last value refuses the change, and a number
+/// whose generation has is not taken again.
+pub fn words_stay_words()
+    ensures fresh { FreshIsInWords }
+    ensures stays { WordsStayWords }
 {}

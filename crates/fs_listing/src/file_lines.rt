@@ -9,8 +9,9 @@ use fs_rules::{Blocks, Content, Entry, File, Slots};
 use sfs_base::{Bytes, NoMemory};
 use std::alloc::Global;
 
-/// Adds the lines of a file: its own, and those of its names or its stored blocks.
-pub(crate) fn append_file(
+/// Adds the lines of a file: its own, and those of its names or its stored blocks (`docs/FORMATS.md`, "Listings").
+/// [`NoMemory`]: there is no memory for them.
+pub fn append_file(
     alloc: Global,
     lines: &mut Listing,
     number: u32,

@@ -153,7 +153,7 @@ module _ (g : Geometry) (limits : IsWithinLimits g) (flat : Flat) (place : Part 
 
 -- the record by which contents are compared
 whole : (c : Content) → length (slots_of c) ≡ 15 * (length (slots_of c) / 15) → NameFiles (slots_of c) → IsWhole c
-whole c sized names = record { sized = sized; names = record { files = names } }
+whole c sized names = record { sized = sized; names = names }
 
 module _ (g : Geometry) (flat : Flat) (first : Option Reference) (n chains : ℕ) (empty : Content) (start left : List ℕ) (c : Content)
     (read : IsReadTo g flat (places (block_bytes g flat) first) (511 * chains) empty start left c)

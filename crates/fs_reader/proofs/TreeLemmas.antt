@@ -172,7 +172,7 @@ module _ (flat : Flat) (u : PlainTree) (s : Stands flat u) where
     file_at_one k a f h af ah =
         file_one (block_bytes g flat) k (places (block_bytes g flat) a.first) (places (block_bytes g flat) a.first) f h
         (record { there = af.content.there; holds = af.content.holds }) (record { there = ah.content.there; holds = ah.content.holds })
-        (record { sized = af.content.sized; names = record { files = af.content.names } }) (record { sized = ah.content.sized; names = record { files = ah.content.names } }) (af.attrs ∙ sym ah.attrs)
+        (record { sized = af.content.sized; names = af.content.names }) (record { sized = ah.content.sized; names = ah.content.names }) (af.attrs ∙ sym ah.attrs)
 
     same_kept : (a b : Option Kept) → ((k : Kept) → a ≡ Some k → k.generation ≡ 0 → k.change ≡ 0 → ⊥) → ((k : Kept) → b ≡ Some k → k.generation ≡ 0 → k.change ≡ 0 → ⊥)
         → unwrap_or a nothing_kept ≡ unwrap_or b nothing_kept → a ≡ b

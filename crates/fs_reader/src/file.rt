@@ -8,14 +8,12 @@ ghost use Rattle.fs_reader.specs.declared.tree_fault.TreeFault.TheVariants.{NoTr
 ghost use Rattle.fs_reader.specs.Files.{IsContentRead, IsEmptyFor, IsFileRead, IsNoContent, IsNoFile, file_by};
 ghost use Rattle.fs_reader.specs.Sizes.{AreSized};
 
+use crate::blocks::MAX_CHAINS;
 use crate::links::read_links;
 use crate::tree_fault::TreeFault;
 use fs_layout::{Attrs, Reference, SLOTS_PER_BLOCK};
 use fs_rules::{Blocks, Bytes, Content, Entry, File, Geometry, Slots, Stamp, chains_up_to};
 use std::alloc::Global;
-
-/// The most chaining blocks of a file: a regular file has at most 4,080 blocks.
-const MAX_CHAINS: u32 = 8;
 
 /// Reads the file with this number, whose record has these fields, and takes the marks of its blocks.
 /// `NoTree` exactly where no file has this record and these blocks.
@@ -58,7 +56,8 @@ fn read_content(
     requires live { attrs.now.kind ≢ 0 }
     ensures sized { length left.new ≡ 2048 * geometry.now.memories }
     ensures ok { IfOk result (λ c. IsContentRead geometry.now parts.now number attrs.now left.old left.new c) }
-    ensures none { IfErr result (λ fault. fault ≡ NoTree → IsNoContent geometry.now parts.now number attrs.now left.old) }
+    ensures none { IfErr result (λ fault. fault ≡ NoTree
+        → IsNoContent geometry.now parts.now number attrs.now left.old) }
 {
     if has_few(attrs) {
         read_all(alloc, geometry, parts, left, number, attrs)
@@ -80,10 +79,11 @@ fn read_all(
     requires left { length left.old ≡ 2048 * geometry.now.memories }
     requires fields { IsInode attrs.now }
     requires live { attrs.now.kind ≢ 0 }
-    requires few { attrs.now.chains ≤ 8 }
+    requires few { attrs.now.chains ≤ MAX_CHAINS }
     ensures sized { length left.new ≡ 2048 * geometry.now.memories }
     ensures ok { IfOk result (λ c. IsContentRead geometry.now parts.now number attrs.now left.old left.new c) }
-    ensures none { IfErr result (λ fault. fault ≡ NoTree → IsNoContent geometry.now parts.now number attrs.now left.old) }
+    ensures none { IfErr result (λ fault. fault ≡ NoTree
+        → IsNoContent geometry.now parts.now number attrs.now left.old) }
 {
     let mut content = empty_content(alloc, attrs);
     let behind = read_links(
@@ -105,7 +105,7 @@ fn read_all(
 
 // Whether a record tells no more chaining blocks than a file may have.
 fn has_few(attrs: &Attrs) -> bool
-    ensures { IsTrue result ↔ (attrs.now.chains ≤ 8) }
+    ensures { IsTrue result ↔ (attrs.now.chains ≤ MAX_CHAINS) }
 {
     attrs.chains <= MAX_CHAINS
 }

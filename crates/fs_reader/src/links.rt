@@ -5,7 +5,7 @@ ghost use Rattle.fs_reader.specs.declared.tree_fault.TreeFault.TheVariants.{NoTr
 ghost use Rattle.fs_reader.specs.Links.{IsLinkAt, IsLinkRead, IsNoChainClaimed, IsNoLinkClaimed, ReadsLinks};
 ghost use Rattle.fs_reader.specs.Sizes.{AreSized};
 
-use crate::blocks::read_blocks;
+use crate::blocks::{MAX_CHAINS, read_blocks};
 use crate::marks::take;
 use crate::places::block_of;
 use crate::tree_fault::TreeFault;
@@ -28,10 +28,12 @@ pub(crate) fn read_links(
 ) -> Result<Option<Reference>, TreeFault>
     requires images { AreSized geometry.now parts.now }
     requires left { length left.old ≡ 2048 * geometry.now.memories }
-    requires few { chains ≤ 8 }
+    requires few { chains ≤ MAX_CHAINS }
     ensures sized { length left.new ≡ 2048 * geometry.now.memories }
-    ensures ok { IfOk result (λ behind. ReadsLinks geometry.now parts.now number first chains left.old content.old left.new content.new behind) }
-    ensures none { IfErr result (λ fault. fault ≡ NoTree → IsNoChainClaimed geometry.now parts.now number first chains left.old content.old) }
+    ensures ok { IfOk result (λ behind. ReadsLinks geometry.now parts.now number first chains left.old content.old
+        left.new content.new behind) }
+    ensures none { IfErr result (λ fault. fault ≡ NoTree
+        → IsNoChainClaimed geometry.now parts.now number first chains left.old content.old) }
 {
     let mut next = first;
     for index in 0..chains {
@@ -54,10 +56,12 @@ fn read_link(
 ) -> Result<Option<Reference>, TreeFault>
     requires images { AreSized geometry.now parts.now }
     requires left { length left.old ≡ 2048 * geometry.now.memories }
-    requires few { index < 8 }
+    requires few { index < MAX_CHAINS }
     ensures sized { length left.new ≡ 2048 * geometry.now.memories }
-    ensures ok { IfOk result (λ next. IsLinkRead geometry.now parts.now number index from left.old content.old left.new content.new next) }
-    ensures none { IfErr result (λ fault. fault ≡ NoTree → IsNoLinkClaimed geometry.now parts.now number index from left.old content.old) }
+    ensures ok { IfOk result (λ next. IsLinkRead geometry.now parts.now number index from left.old content.old
+        left.new content.new next) }
+    ensures none { IfErr result (λ fault. fault ≡ NoTree
+        → IsNoLinkClaimed geometry.now parts.now number index from left.old content.old) }
 {
     let at = from.ok_or(TreeFault::NoTree)?;
     take(geometry, left, at)?;

@@ -32,7 +32,8 @@ pub(crate) fn read_number(
     requires last { number ≤ 16384 * geometry.now.memories }
     ensures sized { length left.new ≡ 2048 * geometry.now.memories }
     ensures ok { OnOk result (ReadsNumber geometry.now parts.now number left.old tree.old left.new tree.new) }
-    ensures none { IfErr result (λ fault. fault ≡ NoTree → IsNoneBelow geometry.now parts.now number left.old tree.old) }
+    ensures none { IfErr result (λ fault. fault ≡ NoTree
+        → IsNoneBelow geometry.now parts.now number left.old tree.old) }
 {
     let memory = (number - 1) / MAX_INODES;
     let inode = (number - 1) % MAX_INODES;
@@ -58,8 +59,10 @@ fn read_one(
     requires memory { memory < geometry.now.memories }
     requires inode { inode < geometry.now.inodes }
     ensures sized { length left.new ≡ 2048 * geometry.now.memories }
-    ensures ok { OnOk result (ReadsNumber geometry.now parts.now (number_of memory inode) left.old tree.old left.new tree.new) }
-    ensures none { IfErr result (λ fault. fault ≡ NoTree → IsNoneBelow geometry.now parts.now (number_of memory inode) left.old tree.old) }
+    ensures ok { OnOk result (ReadsNumber geometry.now parts.now
+        (number_of memory inode) left.old tree.old left.new tree.new) }
+    ensures none { IfErr result (λ fault. fault ≡ NoTree
+        → IsNoneBelow geometry.now parts.now (number_of memory inode) left.old tree.old) }
 {
     let attrs = record_of(geometry, parts, memory, inode).ok_or(TreeFault::NoTree)?;
     let number = MAX_INODES * memory + inode + 1;

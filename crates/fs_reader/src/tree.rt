@@ -13,8 +13,8 @@ use fs_rules::{Bytes, Files, Geometry, NoMemory, PlainTree};
 use sfs_base::Table;
 use std::alloc::Global;
 
-/// Reads the tree that images show: what each record and its blocks hold. `NoTree` only where the images stand for no tree
-/// of this cluster; where they stand for one, it is the one that is read.
+/// Reads the tree that images show: what each record and its blocks hold. `NoTree` only where the images stand for no
+/// tree of this cluster; where they stand for one, it is the one that is read.
 pub fn read_tree(
     alloc: Global,
     geometry: &Geometry,

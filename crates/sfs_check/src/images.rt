@@ -82,7 +82,8 @@ fn has_superblock(geometry: &Geometry, page: &[u8], memory: u32) -> bool
     read_superblock(page) == Some(own)
 }
 
-// Whether an image of this size has zeros where nothing lies: behind the last bits of its maps, and behind its last record.
+// Whether an image of this size has zeros where nothing lies: behind the last bits of its maps, and behind its last
+// record.
 fn has_zeros(geometry: &Geometry, bytes: &[u8]) -> bool
     requires limits { IsWithinLimits geometry.now }
     requires sized { length bytes.now ≡ image_size (layout_of geometry.now) }
@@ -95,7 +96,8 @@ fn has_zeros(geometry: &Geometry, bytes: &[u8]) -> bool
 fn has_free_bits(geometry: &Geometry, bytes: &[u8]) -> bool
     requires limits { IsWithinLimits geometry.now }
     requires sized { length bytes.now ≡ image_size (layout_of geometry.now) }
-    ensures { IsTrue result ↔ (AreFreeFrom (bytes_at bytes.now 4096 2048) geometry.now.blocks × AreFreeFrom (bytes_at bytes.now 6144 2048) geometry.now.inodes) }
+    ensures { IsTrue result ↔ (AreFreeFrom (bytes_at bytes.now 4096 2048) geometry.now.blocks
+        × AreFreeFrom (bytes_at bytes.now 6144 2048) geometry.now.inodes) }
 {
     let blocks = &bytes[BITMAPS_AT as usize..INODE_BITMAP_AT as usize];
     let inodes = &bytes[INODE_BITMAP_AT as usize..INODES_AT as usize];
@@ -119,7 +121,8 @@ fn are_free(map: &[u8], from: u32) -> bool
 fn behind_records<'a>(geometry: &Geometry, bytes: &'a [u8]) -> &'a [u8]
     requires limits { IsWithinLimits geometry.now }
     requires sized { length bytes.now ≡ image_size (layout_of geometry.now) }
-    ensures value { result.now ≡ bytes_at bytes.now (record_at geometry.now.inodes) (block_place (layout_of geometry.now) 0 - record_at geometry.now.inodes) }
+    ensures value { result.now ≡ bytes_at bytes.now (record_at geometry.now.inodes)
+        (block_place (layout_of geometry.now) 0 - record_at geometry.now.inodes) }
     ensures len { length result.now ≡ block_place (layout_of geometry.now) 0 - record_at geometry.now.inodes }
 {
     let from = INODES_AT as usize + INODE_BYTES * geometry.inodes as usize;

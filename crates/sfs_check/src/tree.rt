@@ -13,8 +13,8 @@ use fs_rules::{Bytes, Geometry, PlainTree};
 use mini_tx::{Geometry4, Images};
 use std::alloc::Global;
 
-/// The tree that the images of a cluster stand for (docs/FORMATS.md, "What images stand for"). The geometry is within its
-/// limits and has the numbers of the images, and as many memory nodes as there are images.
+/// The tree that the images of a cluster stand for (docs/FORMATS.md, "What images stand for"). The geometry is within
+/// its limits and has the numbers of the images, and as many memory nodes as there are images.
 ///
 /// # Errors
 ///

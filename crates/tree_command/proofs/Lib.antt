@@ -1,0 +1,4 @@
+mod HeadLemmas
+mod ImageLemmas
+mod WriteLemmas
+mod CommandLemmas
