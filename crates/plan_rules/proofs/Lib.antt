@@ -1,0 +1,4 @@
+pub mod SearchLemmas
+mod OrderLemmas
+mod MatchedLemmas
+mod ExampleLemmas

@@ -1,0 +1,14 @@
+pub mod Steps
+pub mod Told
+pub mod Names
+pub mod Blocks
+pub mod Room
+pub mod Changes
+pub mod Orders
+pub mod Compared
+pub mod Fits
+pub mod Fetched
+pub mod Works
+pub mod Laws
+pub mod Matched
+pub mod Examples
