@@ -1,9 +1,1 @@
 pub mod StreamLemmas
-pub mod WordsLemmas
-pub mod NumberLemmas
-pub mod BytesLemmas
-pub mod WritingLemmas
-pub mod ReadingLemmas
-pub mod EventLemmas
-pub mod LineLemmas
-pub mod SpellingLemmas

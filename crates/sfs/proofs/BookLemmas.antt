@@ -2,8 +2,8 @@
 use Rattle.std.proofs.Common.{◌≡◌, ℕ, ◌+◌, ◌<◌, List, [], ◌∷◌, ◌++◌, length, take, get_or, refl, ap, ◌∙◌}
 use Rattle.std.proofs.lemmas.Grind.{flat_map-append}
 use Rattle.std.proofs.lemmas.List.{append-nil, take_more}
-use Rattle.schedule_text.specs.declared.line.Line.{Line}
-use Rattle.schedule_text.specs.Grammar.{spelling_of_line}
+use Rattle.line_text.specs.declared.line.Line.{Line}
+use Rattle.line_text.specs.Grammar.{spelling_of_line}
 use Rattle.sfs.specs.Schedule.{Schedule}
 use Rattle.sfs.specs.Book.{Book, noted, book_after}
 use Rattle.sfs.specs.Legal.{IsLegalFrom, text_of}

@@ -10,19 +10,19 @@ use Rattle.std.proofs.lemmas.List.Sums.{position_or_len_is}
 use Rattle.fs_rules.specs.declared.geometry.Geometry.{Geometry}
 use Rattle.nfs_proto.specs.declared.stamp.Stamp.{Stamp}
 use Rattle.fs_rules.specs.declared.plain_tree.PlainTree.{PlainTree}
-use Rattle.schedule_text.specs.declared.drop_why.DropWhy.TheVariants as why
-use Rattle.schedule_text.specs.declared.event.Event.{Event}
-use Rattle.schedule_text.specs.declared.event.Event.TheVariants as event
-use Rattle.schedule_text.specs.declared.limits.TheConstants.{MAX_LINES}
-use Rattle.schedule_text.specs.declared.line.Line.{Line}
-use Rattle.schedule_text.specs.declared.line.Line.TheVariants as line
+use Rattle.line_text.specs.declared.drop_why.DropWhy.TheVariants as why
+use Rattle.event_text.specs.declared.event.Event.{Event}
+use Rattle.event_text.specs.declared.event.Event.TheVariants as event
+use Rattle.line_words.specs.declared.limits.TheConstants.{MAX_LINES}
+use Rattle.line_text.specs.declared.line.Line.{Line}
+use Rattle.line_text.specs.declared.line.Line.TheVariants as line
 use Rattle.sfs.specs.declared.world.World.{World}
 use Rattle.sfs.specs.Schedule.{Schedule}
-use Rattle.sfs.specs.declared.request.Request.{Request}
-use Rattle.sfs.specs.declared.request.Request.TheVariants as request
+use Rattle.nfs_service.specs.declared.request.Request.{Request}
+use Rattle.nfs_service.specs.declared.request.Request.TheVariants as request
 use Rattle.fs_tree.specs.declared.response.Change.{Change}
 use Rattle.sfs.specs.declared.outcome.Outcome.{Outcome}
-use Rattle.sfs.specs.Reply.{heard, Effect, effect}
+use Rattle.nfs_service.specs.Reply.{heard, Effect, effect}
 use Rattle.sfs.specs.Outcome.{ComesTo, points_after}
 use Rattle.sfs.specs.Book.{Book, Arrival, numbered, point_of, may_come, come_from, next_event, response, with_arrival, with_point, noted, book_after}
 use Rattle.sfs.specs.Legal.{IsRunning, Arrives, Changes, Replies, Drops, HoldsAt, IsAllowed, IsLegalFrom}

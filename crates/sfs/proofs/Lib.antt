@@ -1,12 +1,6 @@
-pub mod LineLemmas
-pub mod WindowLemmas
-pub mod StreamSteps
-pub mod ReadOn
 pub mod RulesLemmas
-pub mod ReplyLemmas
 pub mod BookLemmas
 pub mod EventLemmas
-pub mod ScheduleLemmas
 pub mod ReplayLemmas
 pub mod OpenLemmas
 pub mod RunLemmas

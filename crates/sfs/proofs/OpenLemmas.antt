@@ -1,25 +1,26 @@
 -- The first line of a schedule, and the world that it opens.
-use Rattle.std.proofs.Common.{◌≡◌, ℕ, Bool, true, false, List, [], ◌∷◌, ◌++◌, Option, Some, None, Result, Ok, Err, refl, sym, ap, subst, ◌∙◌, arith}
+use Rattle.std.proofs.Common.{◌≡◌, ℕ, true, false, List, [], ◌∷◌, ◌++◌, Option, Some, None, Result, Ok, Err, refl, sym, ap, subst, ◌∙◌, arith}
 use Rattle.std.specs.Prelude.{slice_get, OnOk, IfOk}
 use Rattle.fs_rules.specs.Fresh.{fresh}
 use Rattle.fs_rules.specs.declared.geometry.Geometry.{Geometry}
 use Rattle.schedule_text.specs.Stream.{Puts}
 use Rattle.schedule_text.proofs.StreamLemmas.{Takes-none, Puts-none}
-use Rattle.schedule_text.specs.declared.event.Event.{Event}
-use Rattle.schedule_text.specs.declared.line.Line.{Line}
-use Rattle.schedule_text.specs.declared.line.Line.TheVariants as line
+use Rattle.event_text.specs.declared.event.Event.{Event}
+use Rattle.line_text.specs.declared.line.Line.{Line}
+use Rattle.line_text.specs.declared.line.Line.TheVariants as line
 use Rattle.sfs.specs.declared.ending.Ending.{Ending}
-use Rattle.sfs.specs.declared.schedule_reader.ScheduleReader.{ScheduleReader}
-use Rattle.sfs.specs.declared.stop.Stop.{Stop}
-use Rattle.sfs.specs.declared.stop.Stop.TheVariants.{ReadFault, WriteFault, NoMemory}
+use Rattle.line_stream.specs.declared.schedule_reader.ScheduleReader.{ScheduleReader}
+use Rattle.line_stream.specs.declared.stop.Stop.{Stop}
+use Rattle.line_stream.specs.declared.stop.Stop.TheVariants.{ReadFault, WriteFault, NoMemory}
 use Rattle.sfs.specs.declared.world.World.{World}
 use Rattle.sfs.specs.Schedule.{Schedule, event_in, schedule_of, cluster_in, cluster_of}
-use Rattle.sfs.specs.ScheduleReader.{unlines, IsUnread, HasRead, IsNoEvent, NoneFollows, ReadsEvent}
+use Rattle.line_stream.specs.ScheduleReader.{unlines, IsUnread, HasRead, IsNoEvent, NoneFollows, ReadsEvent}
 use Rattle.sfs.specs.Book.{Book, opened, opened_at, book_after}
 use Rattle.sfs.specs.Legal.{IsAtRest, IsLegalFrom, text_of}
 use Rattle.sfs.specs.World.{Stands, Opens as OpensWorld}
-use Rattle.sfs.specs.Replay.{Came, CountsWrites, Follows, Stood, Stopped, Finishes, OfSchedule, Opens, Replays}
-use Rattle.sfs.specs.Output.{WritesFront}
+use Rattle.line_stream.specs.Output.{CountsWrites}
+use Rattle.sfs.specs.Replay.{Came, Follows, Stood, Stopped, Finishes, OfSchedule, Opens, Replays}
+use Rattle.line_stream.specs.Output.{WritesFront}
 use Rattle.sfs.proofs.ReplayLemmas.{goes_behind, refuses_first, fails_to_read, written, written_whole}
 
 -- a reader that has read nothing

@@ -1,5 +1,5 @@
 -- The turns of a replay: what each of them makes of the transcript.
-use Rattle.std.proofs.Common.{◌≡◌, ℕ, zero, suc, ◌+◌, ◌<◌, ◌≤◌, Bool, true, false, cond, ◌&&◌, ltb, List, [], ◌∷◌, ◌++◌, length, map, Option, Some, None, Ok, Err, refl, sym, ap, subst, ◌∙◌, append_assoc, arith}
+use Rattle.std.proofs.Common.{◌≡◌, ℕ, zero, suc, ◌+◌, ◌<◌, ◌≤◌, Bool, true, false, cond, ltb, List, [], ◌∷◌, ◌++◌, length, map, Option, Some, None, Ok, Err, refl, sym, ap, subst, ◌∙◌, append_assoc, arith}
 use Rattle.std.specs.Prelude.{slice_get, option_and_then, ◌==◌}
 use Rattle.std.specs.List.{AllByRecursion}
 use Rattle.std.proofs.lemmas.Bool.{le-ltb}
@@ -7,30 +7,31 @@ use Rattle.std.proofs.lemmas.List.{append-nil, length-map, length_push, map-appe
 use Rattle.std.proofs.lemmas.List.Sums.{sum_by-append}
 use Rattle.fs_rules.specs.declared.geometry.Geometry.{Geometry}
 use Rattle.schedule_text.specs.Stream.{Puts}
-use Rattle.schedule_text.specs.declared.event.Event.{Event}
-use Rattle.schedule_text.specs.declared.event.Event.TheVariants as event
-use Rattle.schedule_text.specs.declared.limits.TheConstants.{MAX_LINES}
-use Rattle.schedule_text.specs.declared.line.Line.{Line}
-use Rattle.schedule_text.specs.declared.line.Line.TheVariants as line
+use Rattle.event_text.specs.declared.event.Event.{Event}
+use Rattle.event_text.specs.declared.event.Event.TheVariants as event
+use Rattle.line_words.specs.declared.limits.TheConstants.{MAX_LINES}
+use Rattle.line_text.specs.declared.line.Line.{Line}
+use Rattle.line_text.specs.declared.line.Line.TheVariants as line
 use Rattle.schedule_text.proofs.StreamLemmas.{Puts-append}
 use Rattle.sfs.specs.declared.replay.Replay.{Replay}
-use Rattle.sfs.specs.declared.schedule_reader.ScheduleReader.{ScheduleReader}
+use Rattle.line_stream.specs.declared.schedule_reader.ScheduleReader.{ScheduleReader}
 use Rattle.sfs.specs.declared.step.Step.{Step}
 use Rattle.sfs.specs.declared.step.Step.TheVariants.{On, Ended, Refused}
-use Rattle.sfs.specs.declared.stop.Stop.{Stop}
-use Rattle.sfs.specs.declared.stop.Stop.TheVariants.{ReadFault, WriteFault, NoMemory}
+use Rattle.line_stream.specs.declared.stop.Stop.{Stop}
+use Rattle.line_stream.specs.declared.stop.Stop.TheVariants.{ReadFault, WriteFault, NoMemory}
 use Rattle.sfs.specs.declared.world.World.{World}
-use Rattle.sfs.specs.LineReader.{CountsReads}
-use Rattle.sfs.specs.Lines.{IsOneLine}
-use Rattle.sfs.specs.Output.{WritesFront}
+use Rattle.line_stream.specs.LineReader.{CountsReads}
+use Rattle.line_stream.specs.Lines.{IsOneLine}
+use Rattle.line_stream.specs.Output.{WritesFront}
 use Rattle.sfs.specs.Schedule.{Schedule, event_in, schedule_of, cluster_of}
-use Rattle.sfs.specs.ScheduleReader.{unlines, HasRead, IsNoEvent, NoneFollows, FailsAfter, ReadsEvent}
+use Rattle.line_stream.specs.ScheduleReader.{unlines, HasRead, IsNoEvent, NoneFollows, FailsAfter, ReadsEvent}
 use Rattle.sfs.specs.Book.{Book, come_from, next_event, opened, noted, book_after}
 use Rattle.sfs.specs.Legal.{IsAllowed, IsLegal, IsLegalFrom, text_of}
 use Rattle.sfs.specs.World.{Stands, GoesOn, Steps}
-use Rattle.sfs.specs.Replay.{Counts, CountsWrites, Follows, Stood, Finishes, FailsToRead, BreaksOff, Stopped, OfSchedule, AreAllUnder, book_of, line_ends}
+use Rattle.line_stream.specs.Output.{CountsWrites}
+use Rattle.sfs.specs.Replay.{Counts, Follows, Stood, Finishes, FailsToRead, BreaksOff, Stopped, OfSchedule, AreAllUnder, book_of, line_ends}
 use Rattle.sfs.proofs.BookLemmas.{book_after-append, legal-append, text-append}
-use Rattle.sfs.proofs.ScheduleLemmas.{told_lines, get_behind}
+use Rattle.line_stream.proofs.ScheduleLemmas.{told_lines, get_behind}
 
 -- ---- the schedule behind the lines that were read
 

@@ -28,9 +28,9 @@ use Rattle.fs_rules.specs.Making.{new_file, new_number, create_edits, create_edi
 use Rattle.fs_rules.specs.Names.{Move, is_same, link_edits, unlinked, loses_link, remove_edits, remove_edits_by, remove_dir_edits, remove_dir_edits_by, directory_edits, replaced_edits, move_edits}
 use Rattle.fs_rules.specs.Respond.{respond, checks, decided, edits_of, answer_of, move_by, IsPick}
 use Rattle.fs_laws.proofs.EditLemmas.{geometry_edited}
-use Rattle.schedule_text.specs.Grammar.{IsWritableFile}
+use Rattle.line_text.specs.Grammar.{IsWritableFile}
 use Rattle.fs_tree.specs.declared.response.Change.{Change}
-use Rattle.sfs.specs.Reply.{HasHandle}
+use Rattle.nfs_service.specs.Reply.{HasHandle}
 use Rattle.sfs.specs.Outcome.{IsSpelledChange}
 
 -- ---- the cluster

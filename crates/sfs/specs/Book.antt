@@ -4,12 +4,12 @@ use Rattle.fs_rules.specs.declared.geometry.Geometry.{Geometry}
 use Rattle.nfs_proto.specs.declared.stamp.Stamp.{Stamp}
 use Rattle.fs_rules.specs.declared.plain_tree.PlainTree.{PlainTree}
 use Rattle.fs_rules.specs.Fresh.{fresh}
-use Rattle.schedule_text.specs.declared.event.Event.{Event}
-use Rattle.schedule_text.specs.declared.event.Event.TheVariants as event
-use Rattle.schedule_text.specs.declared.limits.TheConstants.{MAX_LINES}
-use Rattle.schedule_text.specs.declared.line.Line.{Line}
-use Rattle.schedule_text.specs.declared.line.Line.TheVariants as line
-use Rattle.sfs.specs.Reply.{heard, Effect, effect}
+use Rattle.event_text.specs.declared.event.Event.{Event}
+use Rattle.event_text.specs.declared.event.Event.TheVariants as event
+use Rattle.line_words.specs.declared.limits.TheConstants.{MAX_LINES}
+use Rattle.line_text.specs.declared.line.Line.{Line}
+use Rattle.line_text.specs.declared.line.Line.TheVariants as line
+use Rattle.nfs_service.specs.Reply.{heard, Effect, effect}
 use Rattle.sfs.specs.Schedule.{Schedule, cluster_of}
 
 -- a datagram that came to a node, and how many changes stood before it
@@ -48,11 +48,12 @@ opened_at None = record { lines = 0; arrivals = []; points = []; trees = []; end
 abbrev pub opened : Schedule → Book
 opened schedule = opened_at (cluster_of schedule)
 
--- whether an event may come: its node is there, and not too many came before it
+-- whether an event may come: an arrival whose node is there, and before which not too many came, or the end; the plain tree knows
+-- no other
 abbrev pub may_come : Geometry → Book → Event → Bool
-may_come g book (event.Cluster nodes memories blocks inodes) = false
 may_come g book (event.Arrive node sec usec bytes) = nat_lt node g.nodes && nat_lt (length book.arrivals) (2 ^ 32 - 1)
 may_come g book event.End = true
+may_come g book other = false
 
 -- the event of a line, if it may come
 abbrev pub come_from : Geometry → Book → Option Event → Option Event
@@ -71,13 +72,12 @@ response book arrival t = option_and_then (λ a. effect t (heard a.bytes) arriva
 -- one more arrival
 abbrev pub with_arrival : Book → Option Event → Book
 with_arrival book None = book
-with_arrival book (Some (event.Cluster nodes memories blocks inodes)) = book
 with_arrival book (Some (event.Arrive node sec usec bytes)) =
     record book {
       lines = book.lines + 1;
       arrivals = book.arrivals ++ (record { node = node; moment = record { sec = sec; usec = usec }; bytes = bytes; points = length book.points }) ∷ [];
     }
-with_arrival book (Some event.End) = book
+with_arrival book (Some other) = book
 
 -- one more change
 abbrev pub with_point : Book → ℕ → Option Effect → Book
@@ -92,6 +92,7 @@ noted schedule book (line.Reply arrival at bytes) = record book { ended = book.e
 noted schedule book (line.Dropped arrival why) = record book { ended = book.ended ++ arrival ∷ [] }
 noted schedule book (line.Refused number) = record book { closed = true }
 noted schedule book line.End = record book { closed = true }
+noted schedule book other = book
 
 -- more lines
 unfoldable pub book_after : Schedule → Book → List Line → Book

@@ -2,15 +2,15 @@
 use Rattle.std.specs.Prelude.{◌≡◌, ◌≢◌, ℕ, ◌+◌, ◌-◌, ◌≤◌, false, List, [], ◌∷◌, ◌++◌, length, slice_get, Contains, Option, Some, None}
 use Rattle.std.specs.List.{flat_map}
 use Rattle.fs_rules.specs.declared.plain_tree.PlainTree.{PlainTree}
-use Rattle.schedule_text.specs.declared.drop_why.DropWhy.{DropWhy}
-use Rattle.schedule_text.specs.declared.drop_why.DropWhy.TheVariants as why
-use Rattle.schedule_text.specs.declared.event.Event.TheVariants as event
-use Rattle.schedule_text.specs.declared.line.Line.{Line}
-use Rattle.schedule_text.specs.declared.line.Line.TheVariants as line
-use Rattle.schedule_text.specs.Grammar.{spelling_of_line}
+use Rattle.line_text.specs.declared.drop_why.DropWhy.{DropWhy}
+use Rattle.line_text.specs.declared.drop_why.DropWhy.TheVariants as why
+use Rattle.event_text.specs.declared.event.Event.TheVariants as event
+use Rattle.line_text.specs.declared.line.Line.{Line}
+use Rattle.line_text.specs.declared.line.Line.TheVariants as line
+use Rattle.line_text.specs.Grammar.{spelling_of_line}
 use Rattle.sfs.specs.Schedule.{Schedule}
-use Rattle.sfs.specs.declared.request.Request.TheVariants as request
-use Rattle.sfs.specs.Reply.{heard, Effect, effect}
+use Rattle.nfs_service.specs.declared.request.Request.TheVariants as request
+use Rattle.nfs_service.specs.Reply.{heard, Effect, effect}
 use Rattle.sfs.specs.Book.{Book, Arrival, numbered, point_of, last_tree, opened, next_event, response, noted}
 
 -- no line came that is the last, and every arrival so far has its reply or was dropped
@@ -90,6 +90,7 @@ IsAllowed schedule book (line.Reply arrival at bytes) = Replies book arrival at 
 IsAllowed schedule book (line.Dropped arrival reason) = Drops book arrival reason
 IsAllowed schedule book (line.Refused number) = Refuses schedule book number
 IsAllowed schedule book line.End = Ends schedule book
+IsAllowed schedule book other = ⊥
 
 -- these lines may come, one after another
 unfoldable pub IsLegalFrom : Schedule → Book → List Line → Type 0

@@ -1,14 +1,8 @@
-pub mod Output
-pub mod Lines
-pub mod Reading
-pub mod LineReader
 pub mod Schedule
-pub mod Reply
 pub mod Outcome
 pub mod Book
 pub mod Legal
 pub mod World
-pub mod ScheduleReader
 pub mod Replay
 pub mod Status
 pub mod Run

@@ -2,10 +2,10 @@
 use Rattle.std.specs.Prelude.{◌≡◌, ◌≢◌, ℕ, ◌+◌, List, Option, Some, None, IfSome, IfNone}
 use Rattle.fs_tree.specs.declared.response.Change.{Change}
 use Rattle.fs_rules.specs.declared.plain_tree.PlainTree.{PlainTree}
-use Rattle.schedule_text.specs.Grammar.{IsWritableFile}
-use Rattle.schedule_text.specs.Words.{HasDatagramLength}
+use Rattle.line_text.specs.Grammar.{IsWritableFile}
+use Rattle.line_words.specs.Words.{HasDatagramLength}
 use Rattle.sfs.specs.declared.outcome.Outcome.{Outcome}
-use Rattle.sfs.specs.Reply.{Effect}
+use Rattle.nfs_service.specs.Reply.{Effect}
 
 -- a tree was replaced by another, which is told exactly where they differ, with the file that was made
 pub record Replaces (old new : PlainTree) (change : Option Change) (made : Option (ℕ × ℕ)) : Type 0 where

@@ -2,29 +2,22 @@
 use Rattle.std.specs.Prelude.{◌≡◌, ℕ, ◌+◌, ◌≤◌, ◌==◌, zero, suc, List, [], ◌∷◌, ◌++◌, length, map, count_by, Option, Some, None, Result, Ok, Err}
 use Rattle.sfs_base.specs.Fault.{Rose}
 use Rattle.schedule_text.specs.Stream.{Takes, Puts}
-use Rattle.schedule_text.specs.declared.line.Line.{Line}
-use Rattle.schedule_text.specs.declared.line.Line.TheVariants as line
+use Rattle.line_text.specs.declared.line.Line.{Line}
+use Rattle.line_text.specs.declared.line.Line.TheVariants as line
 use Rattle.sfs.specs.declared.ending.Ending.{Ending}
 use Rattle.sfs.specs.declared.ending.Ending.TheVariants as ending
 use Rattle.sfs.specs.declared.replay.Replay.{Replay}
-use Rattle.sfs.specs.declared.stop.Stop.{Stop}
-use Rattle.sfs.specs.declared.stop.Stop.TheVariants.{ReadFault, WriteFault, NoMemory}
+use Rattle.line_stream.specs.declared.stop.Stop.{Stop}
+use Rattle.line_stream.specs.declared.stop.Stop.TheVariants.{ReadFault, WriteFault, NoMemory}
 use Rattle.sfs.specs.declared.turn.Turn.{Turn}
 use Rattle.sfs.specs.declared.turn.Turn.TheVariants as turn
 use Rattle.sfs.specs.declared.world.World.{World}
-use Rattle.sfs.specs.Output.{WritesFront}
+use Rattle.line_stream.specs.Output.{WritesFront}
 use Rattle.sfs.specs.Schedule.{Schedule, event_in, schedule_of}
-use Rattle.sfs.specs.ScheduleReader.{HasRead, FailsAfter}
+use Rattle.line_stream.specs.ScheduleReader.{HasRead, FailsAfter}
 use Rattle.sfs.specs.Book.{Book, opened, book_after}
 use Rattle.sfs.specs.Legal.{IsAtRest, IsLegal, text_of}
 use Rattle.sfs.specs.World.{Stands}
-
--- the sink's count rose where its fault is answered, and else stayed
-abbrev pub CountsWrites : {X : Type 0} → ℕ → ℕ → Result X Stop → Type 0
-CountsWrites before now (Ok x) = now ≡ before
-CountsWrites before now (Err ReadFault) = ⊥
-CountsWrites before now (Err WriteFault) = Rose before now
-CountsWrites before now (Err NoMemory) = now ≡ before
 
 -- the counts of the source and of the sink: the one whose fault is answered rose, and the other stayed
 abbrev pub Counts : {X : Type 0} → ℕ → ℕ → ℕ → ℕ → Result X Stop → Type 0

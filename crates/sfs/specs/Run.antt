@@ -4,7 +4,7 @@ use Rattle.sfs_base.specs.Fault.{Rose}
 use Rattle.sfs.specs.declared.ending.Ending.TheVariants as ending
 use Rattle.sfs.specs.declared.status.Status.{Status}
 use Rattle.sfs.specs.declared.status.Status.TheVariants as status
-use Rattle.sfs.specs.declared.stop.Stop.TheVariants as stop
+use Rattle.line_stream.specs.declared.stop.Stop.TheVariants as stop
 use Rattle.sfs.specs.Replay.{Came, Stopped}
 
 -- the words are the one word `replay`, by the bytes of each

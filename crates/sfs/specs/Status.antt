@@ -4,8 +4,8 @@ use Rattle.sfs.specs.declared.ending.Ending.{Ending}
 use Rattle.sfs.specs.declared.ending.Ending.TheVariants as ending
 use Rattle.sfs.specs.declared.status.Status.{Status}
 use Rattle.sfs.specs.declared.status.Status.TheVariants as status
-use Rattle.sfs.specs.declared.stop.Stop.{Stop}
-use Rattle.sfs.specs.declared.stop.Stop.TheVariants as stop
+use Rattle.line_stream.specs.declared.stop.Stop.{Stop}
+use Rattle.line_stream.specs.declared.stop.Stop.TheVariants as stop
 
 -- the exit status
 abbrev pub code_of : Status → ℕ

@@ -4,17 +4,17 @@ use Rattle.std.specs.List.{AllByRecursion}
 use Rattle.sfs_base.specs.declared.no_memory.NoMemory.{NoMemory}
 use Rattle.fs_rules.specs.Fresh.{fresh}
 use Rattle.fs_tree.specs.declared.response.Change.{Change}
-use Rattle.schedule_text.specs.declared.drop_why.DropWhy.TheVariants as why
-use Rattle.schedule_text.specs.declared.event.Event.{Event}
-use Rattle.schedule_text.specs.declared.event.Event.TheVariants as event
-use Rattle.schedule_text.specs.declared.line.Line.{Line}
-use Rattle.schedule_text.specs.Grammar.{IsWritableLine}
+use Rattle.line_text.specs.declared.drop_why.DropWhy.TheVariants as why
+use Rattle.event_text.specs.declared.event.Event.{Event}
+use Rattle.event_text.specs.declared.event.Event.TheVariants as event
+use Rattle.line_text.specs.declared.line.Line.{Line}
+use Rattle.line_text.specs.Grammar.{IsWritableLine}
 use Rattle.sfs.specs.declared.outcome.Outcome.{Outcome}
 use Rattle.sfs.specs.declared.world.World.{World}
 use Rattle.sfs.specs.declared.step.Step.{Step}
 use Rattle.sfs.specs.declared.step.Step.TheVariants.{On, Ended, Refused}
 use Rattle.sfs.specs.Schedule.{Schedule, cluster_of, cluster_in}
-use Rattle.schedule_text.specs.declared.line.Line.TheVariants as line
+use Rattle.line_text.specs.declared.line.Line.TheVariants as line
 use Rattle.sfs.specs.Book.{Book, last_tree, next_event, book_after}
 use Rattle.sfs.specs.Legal.{IsAtRest, IsLegalFrom}
 

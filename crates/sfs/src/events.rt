@@ -1,17 +1,17 @@
 ghost use Rattle.std.specs.Prelude.{◌≡◌, ℕ, ◌<◌, List, slice_get, Some, IfOk};
-ghost use Rattle.schedule_text.specs.declared.event.Event.TheVariants as event;
-ghost use Rattle.schedule_text.specs.declared.limits.TheConstants.{MAX_LINES};
+ghost use Rattle.event_text.specs.declared.event.Event.TheVariants as event;
+ghost use Rattle.line_words.specs.declared.limits.TheConstants.{MAX_LINES};
 ghost use Rattle.sfs.specs.Schedule.{Schedule};
 ghost use Rattle.sfs.specs.Outcome.{points_after};
 ghost use Rattle.sfs.specs.World.{arrival_lines, closing};
 ghost use Rattle.sfs.specs.Book.{Book};
 
 use crate::outcome::Outcome;
-use crate::request::Request;
-use crate::step::{Lines, Step};
+use crate::step::Step;
 use crate::world::World;
 use fs_tree::{Geometry, Stamp, Tree};
-use schedule_text::{DropWhy, Event, Line};
+use nfs_service::Request;
+use schedule_text::{DropWhy, Event, Line, Lines};
 use sfs_base::{Bytes, NoMemory, Seq};
 use std::alloc::Global;
 
@@ -56,6 +56,17 @@ impl World {
     {
         match event {
             Event::Cluster { .. } => Ok(Step::Refused),
+            Event::Deliver { .. } => Ok(Step::Refused),
+            Event::Drain { .. } => Ok(Step::Refused),
+            Event::Lose { .. } => Ok(Step::Refused),
+            Event::GiveUp { .. } => Ok(Step::Refused),
+            Event::Resend { .. } => Ok(Step::Refused),
+            Event::Crash { .. } => Ok(Step::Refused),
+            Event::Start { .. } => Ok(Step::Refused),
+            Event::Sweep { .. } => Ok(Step::Refused),
+            Event::Checkpoint { .. } => Ok(Step::Refused),
+            Event::Backup => Ok(Step::Refused),
+            Event::Show { .. } => Ok(Step::Refused),
             Event::Arrive {
                 node,
                 sec,

@@ -2,11 +2,10 @@
 //! transcript.
 //!
 //! - [`run`]: the words of the command line, an input and an output, to a status.
-//! - `replay`, `turn`, `ending`: the turns of a replay; `transcript`, `output`: what it writes.
-//! - `schedule_reader`, `line_reader`, `found`: the schedule, line by line.
-//! - `world`, `events`, `step`: the plain world, and what an event makes of it; `request`, `outcome`: what
-//!   an arrival asks for, and what it comes to; `reply`: the bytes of a reply.
-//! - `stop`, `status`: what ends a run.
+//! - `replay`, `turn`, `ending`: the turns of a replay; `transcript`: what it writes.
+//! - `world`, `events`, `step`: the plain world, and what an event makes of it; `outcome`: what an arrival
+//!   comes to.
+//! - `status`: how a run ends.
 //! - `standard_input`, `standard_output`: the streams of the process.
 #![tactic(auto)]
 
@@ -16,22 +15,13 @@ ghost use Rattle.sfs.specs.Status.{code_of};
 
 mod ending;
 mod events;
-mod found;
-mod line_reader;
 mod outcome;
-mod output;
 mod replay;
-mod reply;
-mod request;
 mod run;
-mod schedule_reader;
 mod standard_input;
 mod standard_output;
 mod status;
 mod step;
-mod stop;
-#[cfg(test)]
-mod tests;
 mod transcript;
 mod turn;
 mod world;

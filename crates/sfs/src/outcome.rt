@@ -2,12 +2,11 @@ ghost use Rattle.std.specs.Prelude.{◌≡◌, ℕ, ◌%◌, Some, None, IfOk, O
 ghost use Rattle.rpc_msg.specs.declared.cred.Cred.{Cred as TheCred};
 ghost use Rattle.nfs_proto.specs.declared.stamp.Stamp.{Stamp as TheStamp};
 ghost use Rattle.fs_rules.specs.Respond.{IsPick};
-ghost use Rattle.sfs.specs.Reply.{effect, IsSized, AsksFit};
+ghost use Rattle.nfs_service.specs.Reply.{effect, IsSized, AsksFit};
 ghost use Rattle.sfs.specs.Outcome.{ComesTo, IsSizedReply, IsSpelledChange};
 
-use crate::reply::reply_to;
-use crate::request::Request;
 use fs_tree::{Call, Change, Stamp, Tree};
+use nfs_service::{Request, reply_to};
 use sfs_base::{Bytes, NoMemory};
 use std::alloc::Global;
 

@@ -1,18 +1,18 @@
 ghost use Rattle.std.specs.Prelude.{◌≡◌, ◌<◌, ◌^◌, ◌-◌, ℕ, List, [], ◌∷◌, length, Option, OnOk, IfOk};
-ghost use Rattle.schedule_text.specs.Grammar.{IsWritableLine};
-ghost use Rattle.schedule_text.specs.declared.limits.TheConstants.{MAX_LINES as most_lines};
-ghost use Rattle.schedule_text.specs.declared.line.Line.{Line};
+ghost use Rattle.line_text.specs.Grammar.{IsWritableLine};
+ghost use Rattle.line_words.specs.declared.limits.TheConstants.{MAX_LINES as most_lines};
+ghost use Rattle.line_text.specs.declared.line.Line.{Line};
 ghost use Rattle.sfs.specs.Legal.{text_of};
-ghost use Rattle.sfs.specs.Output.{WritesFront};
-ghost use Rattle.sfs.specs.Replay.{Counts, CountsWrites, Replays};
+ghost use Rattle.line_stream.specs.Output.{WritesFront};
+ghost use Rattle.line_stream.specs.Output.{CountsWrites};
+ghost use Rattle.sfs.specs.Replay.{Counts, Replays};
 
 use crate::ending::Ending;
-use crate::schedule_reader::ScheduleReader;
 use crate::step::Step;
-use crate::stop::Stop;
 use crate::transcript::write_lines;
 use crate::turn::Turn;
 use crate::world::World;
+use line_stream::{ScheduleReader, Stop};
 use schedule_text::{Line, MAX_LINES, Sink, Source};
 use std::alloc::Global;
 
@@ -69,7 +69,7 @@ pub struct Replay {
 }
 
 impl Replay {
-    ghost use Rattle.sfs.specs.LineReader.{CountsReads};
+    ghost use Rattle.line_stream.specs.LineReader.{CountsReads};
     ghost use Rattle.sfs.specs.Replay.{Counts, Opens, Stood, Turns};
 
     /// Reads the first line, and opens the world of the cluster that it names; `None` where it names none

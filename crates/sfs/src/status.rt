@@ -2,7 +2,7 @@ ghost use Rattle.std.specs.Prelude.{◌≡◌};
 ghost use Rattle.sfs.specs.Status.{code_of, ended_as, stopped_as};
 
 use crate::ending::Ending;
-use crate::stop::Stop;
+use line_stream::Stop;
 use std::fmt::{self, Display, Formatter};
 
 /// How a run of the program ended.

@@ -1,8 +1,4 @@
-use schedule_text::Line;
-use sfs_base::Seq;
-
-/// The lines of one event, in order.
-pub type Lines = Seq<Line>;
+use schedule_text::Lines;
 
 /// What an event of a schedule makes of the world.
 #[derive(Debug, Drop)]

@@ -1,13 +1,11 @@
 ghost use Rattle.std.specs.Prelude.{◌≡◌, ℕ, List, [], ◌++◌, OnOk};
 ghost use Rattle.std.specs.List.{AllByRecursion};
-ghost use Rattle.schedule_text.specs.Grammar.{IsWritableLine};
+ghost use Rattle.line_text.specs.Grammar.{IsWritableLine};
 ghost use Rattle.sfs.specs.Legal.{text_of};
-ghost use Rattle.sfs.specs.Output.{WritesFront};
-ghost use Rattle.sfs.specs.Replay.{CountsWrites};
+ghost use Rattle.line_stream.specs.Output.{WritesFront};
+ghost use Rattle.line_stream.specs.Output.{CountsWrites};
 
-use crate::line_reader::NEWLINE;
-use crate::output::write_whole;
-use crate::stop::Stop;
+use line_stream::{NEWLINE, Stop, write_whole};
 use schedule_text::{Line, NoMemory, Sink, append_out};
 use std::alloc::Global;
 

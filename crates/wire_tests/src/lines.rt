@@ -1,7 +1,7 @@
-use schedule_text::{
-    Bytes, Calls, Event, Failed, Line, LineFault, PlanSink, PlanSource, Sink, Source, append_out,
-    read_line, read_out, write_line,
-};
+use event_text::{Event, read_line, write_line};
+use line_text::{Line, append_out, read_out};
+use schedule_text::{Calls, PlanSink, PlanSource, Sink, Source};
+use sfs_base::{Bytes, Failed};
 use std::test::*;
 
 #[test]
@@ -58,16 +58,4 @@ fn a_line_is_read_and_written(rt: HostRuntime) -> Result<(), Fail> {
     assert_eq!(rt; written.as_slice(), text.as_slice());
     assert_eq!(rt; read_out(rt.alloc(), text)?, line);
     Ok(())
-}
-
-#[test]
-fn other_lines_are_refused(rt: HostRuntime) {
-    assert_eq!(rt;
-        read_line(rt.alloc(), b"cluster 01 1 1 1"),
-        Err(LineFault::Bad)
-    );
-    assert_eq!(rt;
-        read_out(rt.alloc(), b"reply 1 at 0 AB"),
-        Err(LineFault::Bad)
-    );
 }

@@ -1,8 +1,8 @@
 use Rattle.std.proofs.Common.{◌≡◌, ◌+◌, ◌≤◌, ℕ, [], ◌∷◌, ◌++◌, length, Option, Ok, refl, subst, ◌∙◌, arith}
 use Rattle.std.proofs.lemmas.List.{length_push}
 use Rattle.std.proofs.lemmas.Result.{err_from_is_err_and}
-use Rattle.schedule_text.specs.declared.limits.TheConstants.{MAX_LINES}
-use Rattle.schedule_text.specs.declared.line.Line.TheVariants as line
+use Rattle.line_words.specs.declared.limits.TheConstants.{MAX_LINES}
+use Rattle.line_text.specs.declared.line.Line.TheVariants as line
 use Rattle.schedule_text.proofs.StreamLemmas.{Puts-none}
 use Rattle.sfs.specs.declared.ending.Ending.TheVariants as ending
 use Rattle.sfs.specs.declared.replay.Replay.{Replay}

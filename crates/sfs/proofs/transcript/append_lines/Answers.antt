@@ -1,6 +1,6 @@
 use Rattle.std.proofs.Common.{◌≡◌, ◌+◌, ◌∷◌, [], ◌++◌, take, List, ℕ, sym, ap, ◌∙◌, append_assoc, arith}
 use Rattle.std.proofs.lemmas.List.{append-nil}
-use Rattle.schedule_text.specs.Grammar.{spelling_of_line}
+use Rattle.line_text.specs.Grammar.{spelling_of_line}
 use Rattle.sfs.specs.Legal.{text_of}
 use Rattle.sfs.proofs.BookLemmas.{text-more}
 use Rattle.sfs.proofs.transcript.append_lines.Goals as goal

@@ -1,7 +1,7 @@
 use Rattle.std.proofs.Common.{sym, ap, subst, ◌∙◌}
 use Rattle.std.specs.Prelude.{◌%◌}
 use Rattle.fs_rules.specs.declared.plain_tree.PlainTree.{PlainTree}
-use Rattle.sfs.specs.Reply.{HasHandle}
+use Rattle.nfs_service.specs.Reply.{HasHandle}
 use Rattle.sfs.proofs.RulesLemmas.{respond-cluster, respond-handle, respond-spelled, change_spelled}
 use Rattle.sfs.proofs.outcome.Outcome.of.Goals as goal
 

@@ -1,8 +1,8 @@
 use Rattle.std.proofs.Common.{[], Option, Some, Ok, subst}
 use Rattle.std.proofs.lemmas.Result.{err_from_is_err_and}
-use Rattle.schedule_text.specs.declared.event.Event.{Event}
+use Rattle.event_text.specs.declared.event.Event.{Event}
 use Rattle.sfs.specs.World.{Opens}
-use Rattle.sfs.specs.ScheduleReader.{ReadsEvent}
+use Rattle.line_stream.specs.ScheduleReader.{ReadsEvent}
 use Rattle.sfs.proofs.OpenLemmas.{unread, first_stopped, none_first, no_cluster, stands_first}
 use Rattle.sfs.proofs.replay.Replay.open.Goals as goal
 

@@ -1,13 +1,13 @@
 use Rattle.std.proofs.Common.{◌≡◌, ℕ, List, [], Option, Ok, refl, subst}
 use Rattle.std.proofs.lemmas.Result.{err_from_is_err_and}
-use Rattle.schedule_text.specs.declared.event.Event.{Event}
+use Rattle.event_text.specs.declared.event.Event.{Event}
 use Rattle.sfs.specs.declared.step.Step.{Step}
 use Rattle.sfs.specs.declared.step.Step.TheVariants.{On, Ended, Refused}
 use Rattle.sfs.specs.declared.turn.Turn.{Turn}
-use Rattle.schedule_text.specs.declared.line.Line.{Line}
-use Rattle.sfs.specs.Output.{WritesFront}
+use Rattle.line_text.specs.declared.line.Line.{Line}
+use Rattle.line_stream.specs.Output.{WritesFront}
 use Rattle.sfs.specs.Legal.{text_of}
-use Rattle.sfs.specs.ScheduleReader.{ReadsEvent}
+use Rattle.line_stream.specs.ScheduleReader.{ReadsEvent}
 use Rattle.sfs.proofs.ReplayLemmas.{StepsAll, read_counts, read_stopped, none_follows, breaks_off, steps_at, stands_on, legal_on, write_stopped, ends_here, refuses_here}
 use Rattle.sfs.proofs.replay.Replay.turn.Goals as goal
 

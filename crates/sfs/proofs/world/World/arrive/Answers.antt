@@ -1,11 +1,11 @@
 use Rattle.std.proofs.Common.{◌≡◌, ◌+◌, sym, ap, subst, ◌∙◌, arith}
 use Rattle.std.specs.Prelude.{◌≤◌, ◌<◌}
-use Rattle.schedule_text.specs.declared.event.Event.TheVariants as event
+use Rattle.event_text.specs.declared.event.Event.TheVariants as event
 use Rattle.fs_rules.specs.declared.geometry.Geometry.{Geometry}
 use Rattle.fs_rules.specs.declared.plain_tree.PlainTree.{PlainTree}
-use Rattle.sfs.specs.declared.request.Request.{Request}
+use Rattle.nfs_service.specs.declared.request.Request.{Request}
 use Rattle.sfs.specs.declared.world.World.{World}
-use Rattle.sfs.specs.Reply.{heard, effect}
+use Rattle.nfs_service.specs.Reply.{heard, effect}
 use Rattle.sfs.specs.Outcome.{ComesTo}
 use Rattle.sfs.specs.World.{GoesOn}
 use Rattle.sfs.proofs.EventLemmas.{not_come, no_node, no_number, Counted, counted_one, counted_none, goes_on}

@@ -1,5 +1,0 @@
-use Rattle.schedule_text.proofs.EventLemmas.{events_read_exactly}
-use Rattle.schedule_text.proofs.laws.events_are_read_exactly.Goals as goal
-
-pub returns : goal.returns
-returns c = events_read_exactly

@@ -1,5 +1,0 @@
-use Rattle.schedule_text.proofs.EventLemmas.{events_apart}
-use Rattle.schedule_text.proofs.laws.events_have_their_own_spellings.Goals as goal
-
-pub returns : goal.returns
-returns c = events_apart

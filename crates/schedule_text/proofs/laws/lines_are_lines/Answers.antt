@@ -1,5 +1,0 @@
-use Rattle.schedule_text.proofs.LineLemmas.{lines_one_line}
-use Rattle.schedule_text.proofs.laws.lines_are_lines.Goals as goal
-
-pub returns : goal.returns
-returns c = lines_one_line

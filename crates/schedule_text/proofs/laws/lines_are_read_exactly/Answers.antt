@@ -1,5 +1,0 @@
-use Rattle.schedule_text.proofs.LineLemmas.{lines_read_exactly}
-use Rattle.schedule_text.proofs.laws.lines_are_read_exactly.Goals as goal
-
-pub returns : goal.returns
-returns c = lines_read_exactly

@@ -1,8 +1,0 @@
--- What was read is spelled so, by the law of the grammar.
-use Rattle.schedule_text.specs.Reading.{line_of}
-use Rattle.schedule_text.proofs.LineLemmas.{line_answered}
-use Rattle.schedule_text.proofs.reading.read_out.Goals as goal
-
-pub returns-clause-spelled : goal.returns-clause-spelled
-unfolding line_of
-returns-clause-spelled c = line_answered c.line_of.result c.args.text.now (rw c.new.ensures at c.line_of.ensures)
