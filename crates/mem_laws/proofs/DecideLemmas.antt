@@ -60,7 +60,7 @@ module _ (s : Setting) (m : ℕ) (n : node.Node) (v : machine.View) (id : TxId) 
       (to_floor_is (floor_at n.state.floors id.coord) refl)
 
   -- what was granted is not above its floor
-  not_above : machine.has_grant v.records t ≡ true → machine.standing s v.records t ≡ machine.Above → ⊥
+  pub not_above : machine.has_grant v.records t ≡ true → machine.standing s v.records t ≡ machine.Above → ⊥
   not_above granted is =
       let below = subst (StandsSo s v.records t) is (standing_is s v.records t) in
       let less = below t (None, has_grant-In v.records t granted) refl in

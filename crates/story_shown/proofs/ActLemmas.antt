@@ -1,5 +1,5 @@
 -- A story that is told shows in a state that the machine reaches.
-use Rattle.std.proofs.Common.{◌≡◌, ◌<◌, ◌≤◌, ◌^◌, ℕ, zero, suc, List, [], ◌∷◌, ◌++◌, length, map, get_or, replicate, Option, Some, None, All, refl, sym, ap, subst, ◌∙◌, slice_get, arith}
+use Rattle.std.proofs.Common.{◌≡◌, ◌<◌, ◌≤◌, ◌^◌, ℕ, zero, suc, true, List, [], ◌∷◌, ◌++◌, length, map, get_or, replicate, Option, Some, None, All, refl, sym, ap, subst, ◌∙◌, slice_get, arith}
 use Rattle.std.specs.List.{AllByRecursion}
 use Rattle.std.proofs.lemmas.List.{length-map, length-replicate}
 use Rattle.std.proofs.lemmas.List.Elements.{recursion_from_All}
@@ -12,11 +12,18 @@ use Rattle.mini_tx.specs.Minitransactions.{refusal}
 use Rattle.mem_rules.specs.declared.floor.Floor.{Floor}
 use Rattle.mem_rules.specs.State.{State}
 use Rattle.tx_coord.specs.State as coord
-use Rattle.tx_rules.specs.Mini.{In, Setting}
+use Rattle.tx_rules.specs.Decision.{Grant}
+use Rattle.tx_rules.specs.Mini.{In, IsMini, Mini, Setting, nodes_of}
 use Rattle.tx_rules.specs.World as world
 use Rattle.tx_actors.specs.Machine as whole
 use Rattle.tx_actors.specs.Machine.{Input, steps, opened_at}
-use Rattle.tx_actors.specs.Node.{view}
+use Rattle.tx_actors.specs.Headline.{IsSerial}
+use Rattle.tx_actors.specs.Laws.{IsFitting}
+use Rattle.tx_actors.specs.Node.{own, view, has_grant}
+use Rattle.tx_actors.proofs.HeadlineLemmas.{formatted_clusters_are_serial}
+use Rattle.tx_actors.proofs.RecordLemmas.{In-has_grant, log-own}
+use Rattle.mem_laws.specs.Cells.{number}
+use Rattle.mem_laws.proofs.MiniLemmas.{valid_minis_fit}
 use Rattle.tx_actors.specs.Numbers.{identifier}
 use Rattle.tx_actors.proofs.LawLemmas.{steps_join}
 use Rattle.mem_laws.specs.Loaded.{bytes_in}
@@ -95,7 +102,7 @@ module _ (s : Setting) (size : ℕ) (story : Story) (st : whole.State) (all : Is
       below_boot s size story st all n seat.boot seat.actor st.outcomes
       (λ c is. subst (λ (a : Option coord.State). IsSeated n seat.boot a) is (holds.counted.seated n seat there)) (all.seats n seat there)
 
-  module _ (fit : IsFit s size story) where
+  module _ (fit : IsFit s size story) (pointed : (m t : ℕ) → In t st.world.points → In m (nodes_of s t) → has_grant (view st.world m).records t ≡ true) where
     actor_goes : (n : ℕ) (p : Posted) (seat : Seat) → slice_get story.nodes n ≡ Some seat → IsAboutBegun story.begun (Node n) p.message
         → IsShownPost s st.world p.from (Node n) p.message → (a : Option coord.State) → seat.actor ≡ a → GoesOn s size st (story_steps.to_actor story n p seat.boot a)
     actor_goes n p seat there about shown None is = nothing
@@ -110,7 +117,7 @@ module _ (s : Setting) (size : ℕ) (story : Story) (st : whole.State) (all : Is
         (subst (λ (a : Actor). IsShownPost s st.world p.from a p.message) to (all.posted p posted)) seat.actor refl
 
     receiver_goes : (k : ℕ) (how : How) (p : Posted) → message_at story k ≡ Some p → (to : Actor) → p.to ≡ to → GoesOn s size st (story_steps.to_receiver story k how p to)
-    receiver_goes k how p at (Memory m) to = memory_goes s size story st all fit holds m k p how (slice_get story.sites m) refl at to
+    receiver_goes k how p at (Memory m) to = memory_goes s size story st all fit holds pointed m k p how (slice_get story.sites m) refl at to
     receiver_goes k how p at (Node n) to = node_goes n p (at_posted story k p at) to (slice_get story.nodes n) refl
     receiver_goes k how p at Manager to = nothing
 
@@ -129,21 +136,22 @@ module _ (s : Setting) (size : ℕ) (story : Story) (st : whole.State) (all : Is
         (ap (λ (ns : List Seat). let z : Story = record story { nodes = ns } in z) (sym (get_none story.nodes n (record { boot = boot; actor = Some (coord.started n boot) }) there))) nothing
     started_goes n boot less (Some seat) there = node_start_goes s size story st all n seat.boot boot (less seat there) (below n seat there)
 
-  pub act_goes : (act : Act) → MayHappen size story act → IsFit s size (after_act story act) → IsFit s size story → GoesOn s size st (after_act story act)
-  act_goes (Begins n items) may later fit = at_node_goes n _ (λ seat c there is.
+  pub act_goes : (act : Act) → MayHappen size story act → IsFit s size (after_act story act) → IsFit s size story
+      → ((m t : ℕ) → In t st.world.points → In m (nodes_of s t) → has_grant (view st.world m).records t ≡ true) → GoesOn s size st (after_act story act)
+  act_goes (Begins n items) may later fit pointed = at_node_goes n _ (λ seat c there is.
       let it = seat_is n seat c there is in
       let happens = may seat c there is in
       begin_goes s size story st all n seat.boot c it.0 it.1.0 items happens.0 happens.1
       (subst (λ (z : Story). IsFit s size z) (at_node_is n _ seat c there is) later))
-  act_goes (Delivers k how) may later fit = given_goes fit k how (message_at story k) refl
-  act_goes (GivesUp n) may later fit = at_node_goes n _ (λ seat c there is. let it = seat_is n seat c there is in give_up_goes s size story st all n seat.boot c it.0 it.1.0)
-  act_goes (Clears n) may later fit = at_node_goes n _ (λ seat c there is. let it = seat_is n seat c there is in clear_goes s size story st all n seat.boot c it.0 it.1.0)
-  act_goes (Resends n) may later fit = at_node_goes n _ (λ seat c there is. let it = seat_is n seat c there is in resend_goes s size story st all n seat.boot c it.0 it.1.0 seat there)
-  act_goes (Crashes (Memory m)) may later fit = fall_goes s size story st all fit holds m (slice_get story.sites m) refl
-  act_goes (Crashes (Node n)) may later fit = left_goes fit n (slice_get story.nodes n) refl
-  act_goes (Crashes Manager) may later fit = nothing
-  act_goes (StartsNode n boot) may later fit = started_goes fit n boot may (slice_get story.nodes n) refl
-  act_goes (StartsMemory m found) may later fit = start_goes s size story st all fit holds m found (slice_get story.sites m) refl
+  act_goes (Delivers k how) may later fit pointed = given_goes fit pointed k how (message_at story k) refl
+  act_goes (GivesUp n) may later fit pointed = at_node_goes n _ (λ seat c there is. let it = seat_is n seat c there is in give_up_goes s size story st all n seat.boot c it.0 it.1.0)
+  act_goes (Clears n) may later fit pointed = at_node_goes n _ (λ seat c there is. let it = seat_is n seat c there is in clear_goes s size story st all n seat.boot c it.0 it.1.0)
+  act_goes (Resends n) may later fit pointed = at_node_goes n _ (λ seat c there is. let it = seat_is n seat c there is in resend_goes s size story st all n seat.boot c it.0 it.1.0 seat there)
+  act_goes (Crashes (Memory m)) may later fit pointed = fall_goes s size story st all fit holds pointed m (slice_get story.sites m) refl
+  act_goes (Crashes (Node n)) may later fit pointed = left_goes fit pointed n (slice_get story.nodes n) refl
+  act_goes (Crashes Manager) may later fit pointed = nothing
+  act_goes (StartsNode n boot) may later fit pointed = started_goes fit pointed n boot may (slice_get story.nodes n) refl
+  act_goes (StartsMemory m found) may later fit pointed = start_goes s size story st all fit holds pointed m found (slice_get story.sites m) refl
 
 -- ---- all acts
 
@@ -151,14 +159,35 @@ pub fit_told : (s : Setting) (size : ℕ) (story : Story) (acts : List Act) → 
 fit_told s size story [] fit = fit
 fit_told s size story (act ∷ acts) fit = fit_before s size story (after_act story act) (act_grows story act) (fit_told s size (after_act story act) acts fit)
 
-pub told_goes : (s : Setting) (size : ℕ) (story : Story) (acts : List Act) (st : whole.State) → MayAllHappen size story acts → Holds story → IsFit s size (told story acts)
+-- at the opening
+abbrev pub opened_state : Setting → whole.State
+opened_state s = opened_at s [] s.start (λ c. 0)
+
+-- what has its point was granted by all
+points_granted : (s : Setting) (size : ℕ) (story : Story) (st : whole.State) (inputs : List Input) → st ≡ steps s (opened_state s) inputs → IsShown s size story st → IsFit s size story
+    → (m t : ℕ) → In t st.world.points → In m (nodes_of s t) → has_grant (view st.world m).records t ≡ true
+points_granted s size story st inputs is all fit m t there part =
+    let fitting : IsFitting s st.world = λ u h live.
+    let it = all.known u h in
+    subst (λ (k : ℕ). IsMini (s.mini k)) (sym it.2)
+    (subst (λ (x : Mini). IsMini x) (sym (fit.fits.minis it.0 it.1)) (valid_minis_fit it.0.items (length story.opening) size (fit.valid it.0 it.1))) in
+    let serial : IsSerial s st.world =
+    subst (λ (z : whole.State). IsSerial s z.world) (sym is)
+    (formatted_clusters_are_serial s (λ c. 0) inputs (record { old = fit.fits.old; found = fit.fits.found; early = fit.fits.early })
+    (subst (λ (z : whole.State). IsFitting s z.world) is fitting)) in
+    In-has_grant (own m st.world.log) t (log-own m (Grant t) st.world.log (((serial.points.1 t).0 there).1 m part))
+
+pub told_goes : (s : Setting) (size : ℕ) (story : Story) (acts : List Act) (st : whole.State) (inputs : List Input) → st ≡ steps s (opened_state s) inputs → MayAllHappen size story acts → Holds story → IsFit s size (told story acts)
     → IsShown s size story st → GoesOn s size st (told story acts)
-told_goes s size story [] st may holds fit all = (st, [], refl, all)
-told_goes s size story (act ∷ acts) st may holds fit all =
+told_goes s size story [] st inputs is may holds fit all = (st, [], refl, all)
+told_goes s size story (act ∷ acts) st inputs is may holds fit all =
     let now = after_act story act in
     let later = fit_told s size now acts fit in
-    let first = act_goes s size story st all holds act may.0 later (fit_before s size story now (act_grows story act) later) in
-    let rest = told_goes s size now acts first.0 may.1 (holds_after size story act may.0 holds) fit first.3 in (
+    let here = fit_before s size story now (act_grows story act) later in
+    let first = act_goes s size story st all holds act may.0 later here (points_granted s size story st inputs is all here) in
+    let reached : first.0 ≡ steps s (opened_state s) (inputs ++ first.1) =
+    first.2 ∙ ap (λ (z : whole.State). steps s z first.1) is ∙ sym (steps_join s (opened_state s) inputs first.1) in
+    let rest = told_goes s size now acts first.0 (inputs ++ first.1) reached may.1 (holds_after size story act may.0 holds) fit first.3 in (
       rest.0,
       first.1 ++ rest.1,
       rest.2 ∙ ap (λ (z : whole.State). steps s z rest.1) first.2 ∙ sym (steps_join s st first.1 rest.1),
@@ -176,6 +205,10 @@ all_get : {A : Type 0} (P : A → Type 0) (xs : List A) (m : ℕ) (x : A) → Al
 all_get P [] m x all is = absurd cc
 all_get P (y ∷ xs) zero x all is = subst P (sym (some_is y x is)) all.0
 all_get P (y ∷ xs) (suc m) x all is = all_get P xs m x all.1 is
+
+no_point : (later : List ℕ) (t : ℕ) (before : List ℕ) → [] ≡ later ++ t ∷ before → ⊥
+no_point [] t before is = cc
+no_point (u ∷ later) t before is = cc
 
 low : (k : ℕ) → 0 ≤ k
 low k = omega arith
@@ -223,4 +256,5 @@ module _ (s : Setting) (size : ℕ) (images : List (List ℕ)) (boots : List ℕ
     known = λ t is. absurd (subst (λ (l : List ℕ). In t l) (ap (λ (l : List ℕ). l ++ s.old) fit.fits.found ∙ fit.fits.old) is);
     history = refl;
     refused = λ id is. absurd is;
+    moments = λ id typed later before split. absurd (no_point later (number id) before split);
   }

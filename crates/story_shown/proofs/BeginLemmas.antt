@@ -105,6 +105,7 @@ module _ (s : Setting) (size : ℕ) (story : Story) (st : whole.State) (all : Is
           nodes = refl;
           posted = refl;
           committed = refl;
+          casts = refl;
           adds = (b ∷ [], refl);
           shows = record {
             shows = subst (λ (y : machine.Coordinator). ShowsCoordinator s (rules.begun c items).now y)
@@ -154,6 +155,7 @@ module _ (s : Setting) (size : ℕ) (story : Story) (st : whole.State) (all : Is
         nodes = refl;
         posted = sym (append-nil story.posted);
         committed = refl;
+        casts = refl;
         adds = none story.begun;
         shows = record { shows = subst (λ (y : machine.Coordinator). ShowsCoordinator s later y) (acted_now s st n act) shows; own = own; few = few; ended = ended };
         posts_show = λ o is. absurd is;
@@ -188,6 +190,7 @@ module _ (s : Setting) (size : ℕ) (story : Story) (st : whole.State) (all : Is
       nodes = refl;
       posted = sym (append-nil story.posted);
       committed = refl;
+      casts = refl;
       adds = none story.begun;
       shows = record { shows = (giving_up_is_the_machines s c x actor.shows).1; own = cleared_own c actor.own; few = actor.few; ended = go c.phase };
       posts_show = λ o is. absurd is;
@@ -220,6 +223,7 @@ module _ (s : Setting) (size : ℕ) (story : Story) (st : whole.State) (all : Is
           nodes = set_same story.nodes n seat there;
           posted = refl;
           committed = refl;
+          casts = refl;
           adds = none story.begun;
           shows = subst (λ (y : machine.Coordinator). IsShownSeat s story.begun n seat.boot seat.actor y st.outcomes) (acted_now s st n (machine.resend x)) (all.seats n seat there);
           posts_show = λ o is.
@@ -258,6 +262,7 @@ module _ (s : Setting) (size : ℕ) (story : Story) (st : whole.State) (all : Is
       nodes = refl;
       posted = sym (append-nil story.posted);
       committed = refl;
+      casts = refl;
       adds = none story.begun;
       shows = below;
       posts_show = λ o is. absurd is;
@@ -281,6 +286,7 @@ module _ (s : Setting) (size : ℕ) (story : Story) (st : whole.State) (all : Is
           nodes = refl;
           posted = sym (append-nil story.posted);
           committed = refl;
+          casts = refl;
           adds = none story.begun;
           shows = record {
             shows = subst (λ (y : machine.Coordinator). ShowsCoordinator s (coord.started n boot) y) (acted_now s st n act) (starts_are_the_machines s (st.coordinator n) n boot next);

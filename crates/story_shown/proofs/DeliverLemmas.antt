@@ -8,12 +8,12 @@ use Rattle.mini_tx.specs.declared.posted.Posted.{Posted}
 use Rattle.mem_rules.specs.Rules as node
 use Rattle.mem_rules.specs.State.{State, after_one}
 use Rattle.tx_rules.specs.Decision.{Record}
-use Rattle.tx_rules.specs.Mini.{In, Setting}
+use Rattle.tx_rules.specs.Mini.{In, Setting, nodes_of}
 use Rattle.tx_rules.specs.World.{World, Message, Posts, after_all}
 use Rattle.tx_actors.specs.Machine as whole
 use Rattle.tx_actors.specs.Machine.{Input, ToNode, ToStoppingNode, appending, numbered, to_node, steps}
 use Rattle.tx_actors.specs.Node as machine
-use Rattle.tx_actors.specs.Node.{view}
+use Rattle.tx_actors.specs.Node.{view, has_grant}
 use Rattle.tx_actors.proofs.LawLemmas.{numbers_stay}
 use Rattle.tx_actors.proofs.NodeLemmas.{after_append}
 use Rattle.mem_laws.specs.Shown.{Shows, cut_held, records_of}
@@ -31,7 +31,7 @@ use Rattle.story_laws.proofs.BeginningLemmas.{some_is, at_posted, reacts_on}
 use Rattle.story_laws.proofs.VoteLemmas.{votes_well}
 use Rattle.story_shown.proofs.ShownLemmas.{IsShownPost, GoesTo, IsShownSite, Handles, IsShown, IsFit}
 use Rattle.story_shown.proofs.NodeLemmas.{reached, told, IsNodeChange, node_shown, posts_here}
-use Rattle.story_shown.proofs.ReactLemmas.{message_shows, answer_shows, lengths_stay}
+use Rattle.story_shown.proofs.ReactLemmas.{message_shows, answer_shows, lengths_stay, no_grant, grants_new}
 
 -- the machine goes on to a state in which the story shows
 abbrev pub GoesOn : Setting → ℕ → whole.State → Story → Type 0
@@ -55,7 +55,7 @@ at_number s st m held stops o =
     record { world = after_all s st.world mv.events; coordinator = mv.coordinator; manager = mv.manager; outcomes = mv.outcomes }
 
 module _ (s : Setting) (size : ℕ) (story : Story) (st : whole.State) (m : ℕ) (old : Site) (all : IsShown s size story st) (fit : IsFit s size story) (holds : Holds story)
-    (there : slice_get story.sites m ≡ Some old) where
+    (there : slice_get story.sites m ≡ Some old) (pointed : (t : ℕ) → In t st.world.points → In m (nodes_of s t) → has_grant (view st.world m).records t ≡ true) where
   abbrev n : MemoryNode
   n = node_at old
 
@@ -76,6 +76,9 @@ module _ (s : Setting) (size : ℕ) (story : Story) (st : whole.State) (m : ℕ)
       was = tt;
       shows = subst (λ (x : State). IsShownSite s size (length story.nodes) m x st.world) (sym same) own;
       handles = handles;
+      cast = holds.cast;
+      pointed = pointed;
+      grants_new = λ g is. absurd (no_grant g is);
       answered = λ p is. absurd is;
     }),
   )
@@ -111,6 +114,9 @@ module _ (s : Setting) (size : ℕ) (story : Story) (st : whole.State) (m : ℕ)
       was = (reacts_on story.begun (Node k) n (Memory m) x about).0;
       shows = subst (λ (z : State). IsShownSite s size (length story.nodes) m z (after_all s st.world (appending s st.world m (records_of r.entry)))) (sym state) later_shows;
       handles = handles;
+      cast = holds.cast;
+      pointed = pointed;
+      grants_new = λ g is_. grants_new s size story m n st.world fit holds.counted own x y shown goes about g is_;
       answered = answered;
     }
 
@@ -170,7 +176,8 @@ module _ (s : Setting) (size : ℕ) (story : Story) (st : whole.State) (m : ℕ)
 
 -- ---- the steps of memory nodes
 
-module _ (s : Setting) (size : ℕ) (story : Story) (st : whole.State) (all : IsShown s size story st) (fit : IsFit s size story) (holds : Holds story) where
+module _ (s : Setting) (size : ℕ) (story : Story) (st : whole.State) (all : IsShown s size story st) (fit : IsFit s size story) (holds : Holds story)
+    (pointed : (m t : ℕ) → In t st.world.points → In m (nodes_of s t) → has_grant (view st.world m).records t ≡ true) where
   pub nothing : GoesOn s size st story
   nothing = (st, [], refl, all)
 
@@ -186,11 +193,11 @@ module _ (s : Setting) (size : ℕ) (story : Story) (st : whole.State) (all : Is
   reacted_goes m k n Manager x how there about shown handles = absurd shown
   reacted_goes m k n (Node q) x Lost there about shown handles = nothing
   reacted_goes m k n (Node q) x Handled there about shown handles =
-      handles_it s size story st m (Up n) all fit holds there x shown.0 q about shown.1 shown.2 shown.3 (Up (reaction n x).now) refl tt
+      handles_it s size story st m (Up n) all fit holds there (pointed m) x shown.0 q about shown.1 shown.2 shown.3 (Up (reaction n x).now) refl tt
   reacted_goes m k n (Node q) x Stopped there about shown handles =
-      stops_it s size story st m (Up n) all fit holds there x shown.0 q about shown.1 shown.2 shown.3 (Down (reaction n x).now None) refl tt
-  reacted_goes m k n (Node q) x WentDown there about shown handles = rests s size story st m (Up n) all fit holds there (Down n (Some k)) refl handles
-  reacted_goes m k n (Node q) x WasFull there about shown handles = rests s size story st m (Up n) all fit holds there (Down n None) refl tt
+      stops_it s size story st m (Up n) all fit holds there (pointed m) x shown.0 q about shown.1 shown.2 shown.3 (Down (reaction n x).now None) refl tt
+  reacted_goes m k n (Node q) x WentDown there about shown handles = rests s size story st m (Up n) all fit holds there (pointed m) (Down n (Some k)) refl handles
+  reacted_goes m k n (Node q) x WasFull there about shown handles = rests s size story st m (Up n) all fit holds there (pointed m) (Down n None) refl tt
 
   pub memory_goes : (m k : ℕ) (p : Posted) (how : How) (site : Option Site) → slice_get story.sites m ≡ site → message_at story k ≡ Some p → p.to ≡ Memory m
       → GoesOn s size st (story_steps.to_memory story m k p how site)
@@ -206,12 +213,12 @@ module _ (s : Setting) (size : ℕ) (story : Story) (st : whole.State) (all : Is
   found_goes m k n (Memory q) x there about shown = absurd shown
   found_goes m k n Manager x there about shown = absurd shown
   found_goes m k n (Node q) x there about shown =
-      stops_it s size story st m (Down n (Some k)) all fit holds there x shown.0 q about shown.1 shown.2 shown.3 (Up (with_state (reaction n x).now.state)) refl tt
+      stops_it s size story st m (Down n (Some k)) all fit holds there (pointed m) x shown.0 q about shown.1 shown.2 shown.3 (Up (with_state (reaction n x).now.state)) refl tt
 
   found_at_goes : (m k : ℕ) (n : MemoryNode) (found : Bool) (p : Option Posted) → slice_get story.sites m ≡ Some (Down n (Some k)) → message_at story k ≡ p
       → ((q : Posted) → p ≡ Some q → q.to ≡ Memory m) → GoesOn s size st (story_steps.found_at story m n found p)
-  found_at_goes m k n found None there at to = rests s size story st m (Down n (Some k)) all fit holds there (Up (with_state n.state)) refl tt
-  found_at_goes m k n false (Some p) there at to = rests s size story st m (Down n (Some k)) all fit holds there (Up (with_state n.state)) refl tt
+  found_at_goes m k n found None there at to = rests s size story st m (Down n (Some k)) all fit holds there (pointed m) (Up (with_state n.state)) refl tt
+  found_at_goes m k n false (Some p) there at to = rests s size story st m (Down n (Some k)) all fit holds there (pointed m) (Up (with_state n.state)) refl tt
   found_at_goes m k n true (Some p) there at to =
       let posted = at_posted story k p at in
       found_goes m k n p.from p.message there (about_it m p posted (to p refl)) (shown_it m p posted (to p refl))
@@ -219,7 +226,7 @@ module _ (s : Setting) (size : ℕ) (story : Story) (st : whole.State) (all : Is
   pub start_goes : (m : ℕ) (found : Bool) (site : Option Site) → slice_get story.sites m ≡ site → GoesOn s size st (story_steps.from_site story m found site)
   start_goes m found None there = nothing
   start_goes m found (Some (Up n)) there = nothing
-  start_goes m found (Some (Down n None)) there = rests s size story st m (Down n None) all fit holds there (Up (with_state n.state)) refl tt
+  start_goes m found (Some (Down n None)) there = rests s size story st m (Down n None) all fit holds there (pointed m) (Up (with_state n.state)) refl tt
   start_goes m found (Some (Down n (Some k))) there =
       let handling : Handles story m (Down n (Some k)) = all.handling m (Down n (Some k)) there in
       found_at_goes m k n found (message_at story k) there refl
@@ -227,5 +234,5 @@ module _ (s : Setting) (size : ℕ) (story : Story) (st : whole.State) (all : Is
 
   pub fall_goes : (m : ℕ) (site : Option Site) → slice_get story.sites m ≡ site → GoesOn s size st (story_steps.fallen story m site)
   fall_goes m None there = nothing
-  fall_goes m (Some (Up n)) there = rests s size story st m (Up n) all fit holds there (Down n None) refl tt
+  fall_goes m (Some (Up n)) there = rests s size story st m (Up n) all fit holds there (pointed m) (Down n None) refl tt
   fall_goes m (Some (Down n handling)) there = nothing

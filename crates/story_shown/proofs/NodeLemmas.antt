@@ -1,10 +1,10 @@
 -- A step of a memory node keeps how a story shows in the machine.
-use Rattle.std.proofs.Common.{◌≡◌, ◌⊎◌, inl, inr, ◌<◌, ℕ, ◌==◌, Bool, true, false, cond, ◌&&◌, ◌||◌, List, [], ◌∷◌, ◌++◌, length, map, reverse, Option, Some, None, refl, sym, ap, subst, ◌∙◌, slice_get, slice_set, slice_index_or, arith, if◌then◌else◌}
+use Rattle.std.proofs.Common.{◌≡◌, ◌⊎◌, inl, inr, ◌<◌, ◌+◌, ℕ, ◌==◌, Bool, true, false, cond, ◌&&◌, ◌||◌, List, [], ◌∷◌, ◌++◌, length, map, reverse, Option, Some, None, refl, sym, ap, subst, ◌∙◌, slice_get, slice_set, slice_index_or, arith, if◌then◌else◌}
 use Rattle.std.specs.Prelude.{⊤}
 use Rattle.std.proofs.lemmas.Bool.{cases_eq, eq-eqb, ne_eqb}
-use Rattle.std.proofs.lemmas.List.{reverse-append, map-append}
+use Rattle.std.proofs.lemmas.List.{reverse-append, map-append, length-map, length-reverse}
 use Rattle.std.proofs.lemmas.Option.{slice_get_within}
-use Rattle.lock_table.proofs.OrderLemmas.{same_self}
+use Rattle.lock_table.proofs.OrderLemmas.{is_one, same_self}
 use Rattle.mini_tx.specs.declared.actor.Actor.{Actor}
 use Rattle.mini_tx.specs.declared.entry.Entry.{Entry}
 use Rattle.mini_tx.specs.declared.entry.Entry.TheVariants as entry
@@ -21,7 +21,7 @@ use Rattle.tx_rules.specs.Decision.{Record, Grant, Refuse, Commit, Abort, Forget
 use Rattle.tx_rules.specs.Laws.{history}
 use Rattle.tx_rules.specs.Mini.{In, Mini, Setting, nodes_of}
 use Rattle.tx_rules.specs.World.{World, Message, Event, Grants, Completes, Posts, after, after_all}
-use Rattle.tx_rules.proofs.FaithfulLemmas.{in_back, in_either}
+use Rattle.tx_rules.proofs.FaithfulLemmas.{in_front, in_back, in_either}
 use Rattle.tx_rules.proofs.LawLemmas.{runs_only_add}
 use Rattle.tx_actors.specs.Machine as whole
 use Rattle.tx_actors.specs.Machine.{appending}
@@ -34,18 +34,21 @@ use Rattle.mem_laws.specs.Minis.{mini_of}
 use Rattle.mem_laws.specs.Shown.{Shows, decision_on, records_of}
 use Rattle.mem_laws.proofs.CellLemmas.{sameness_is}
 use Rattle.coord_laws.proofs.ListLemmas.{participants_are}
-use Rattle.story_rules.specs.Story.{Begun, Seat, Site, Story}
+use Rattle.story_rules.specs.Story.{Begun, Seat, Site, Cast, Entered, Sent, Story}
 use Rattle.story_rules.specs.Steps as steps
 use Rattle.story_rules.specs.Steps.{log_of, has_granted, is_of, grant_in, grant_of, with_entry, with_grant, with_answer, items_of, has_write}
 use Rattle.story_laws.specs.Beginnings.{WasBegun, WasBegunIf, entry_of}
 use Rattle.story_laws.specs.Identifiers.{AreDistinct}
 use Rattle.story_laws.specs.Sites.{node_at}
 use Rattle.story_laws.proofs.BeginningLemmas.{EntryWas, some_is}
-use Rattle.story_laws.proofs.CastLemmas.{set_length, set_here}
+use Rattle.story_laws.specs.Casts.{AreCast}
+use Rattle.story_laws.proofs.CompleteLemmas.{not_both}
+use Rattle.story_laws.proofs.CastLemmas.{new_casts, grant_casts, set_length, set_here}
 use Rattle.story_laws.proofs.IdentifierLemmas.{HaveSame, get_same, get_other, counted_same}
 use Rattle.story_laws.proofs.OutcomeLemmas.{own_items}
 use Rattle.story_laws.proofs.SiteLemmas.{TakesEntry, with_one, counted_takes}
 use Rattle.story_laws.proofs.VoteLemmas.{RightIf, counted_posted, entry_there}
+use Rattle.story_shown.specs.History.{IsLastCast}
 use Rattle.story_shown.specs.Fits.{AreTyped}
 use Rattle.story_shown.proofs.ShownLemmas.{IsShownPost, IsShownSite, IsShownSeat, Handles, IsShown, IsFit, post_more, handles_more}
 
@@ -259,6 +262,74 @@ module _ (s : Setting) (size : ℕ) (story : Story) (st : whole.State) (m : ℕ)
   history_is (Some (entry.Cut cut)) right was = all.history
   history_is (Some (entry.Floor x v)) right was = absurd right
 
+-- ---- when votes were cast
+
+-- the last cast stays the last where others are cast on other identifiers
+last_more : (id : TxId) (at : ℕ) (before now : List Cast) → ((c : Cast) → In c before → In c now) → ((m k : ℕ) → In (Entered id m k) now → In (Entered id m k) before)
+    → IsLastCast before id at → IsLastCast now id at
+last_more id at before now stays back was = record { memory = was.memory; there = stays (Entered id was.memory at) was.there; last = λ m k is. was.last m k (back m k is) }
+
+entry_casts : (story : Story) (m : ℕ) (e : Option Entry) → (with_entry story m e).casts ≡ story.casts
+entry_casts story m None = refl
+entry_casts story m (Some e) = refl
+
+entry_committed : (story : Story) (m : ℕ) (e : Option Entry) → (with_entry story m e).committed ≡ story.committed
+entry_committed story m None = refl
+entry_committed story m (Some e) = refl
+
+module _ (story : Story) (m : ℕ) (sender : Actor) (e : Option Entry) where
+  granted_casts : (with_grant (with_entry story m e) m (grant_of e)).casts ≡ story.casts ++ new_casts m (length story.committed) (grant_of e)
+  granted_casts =
+      grant_casts (with_entry story m e) m (grant_of e)
+      ∙ ap (λ (cs : List Cast). cs ++ new_casts m (length (with_entry story m e).committed) (grant_of e)) (entry_casts story m e)
+      ∙ ap (λ (ids : List TxId). story.casts ++ new_casts m (length ids) (grant_of e)) (entry_committed story m e)
+
+  -- an answer casts no vote with an entry
+  answer_stays : (answer : Option sent.Message) (c : Cast) → In c (with_grant (with_entry story m e) m (grant_of e)).casts → In c (steps.counted story m sender e answer).casts
+  answer_stays None c is = is
+  answer_stays (Some x) c is = go (steps.is_look (with_grant (with_entry story m e) m (grant_of e)).begun x)
+    where
+      go : (b : Bool) → In c (if b then (with_grant (with_entry story m e) m (grant_of e)).casts ++ Sent (length (with_grant (with_entry story m e) m (grant_of e)).posted + 1) (length (with_grant (with_entry story m e) m (grant_of e)).committed) ∷ [] else (with_grant (with_entry story m e) m (grant_of e)).casts)
+      go true = in_front c (with_grant (with_entry story m e) m (grant_of e)).casts _ is
+      go false = is
+
+  answer_back : (answer : Option sent.Message) (id : TxId) (k at : ℕ) → In (Entered id k at) (steps.counted story m sender e answer).casts
+      → In (Entered id k at) (with_grant (with_entry story m e) m (grant_of e)).casts
+  answer_back None id k at is = is
+  answer_back (Some x) id k at is_ = go (steps.is_look (with_grant (with_entry story m e) m (grant_of e)).begun x) is_
+    where
+      go : (b : Bool) → In (Entered id k at) (if b then (with_grant (with_entry story m e) m (grant_of e)).casts ++ Sent (length (with_grant (with_entry story m e) m (grant_of e)).posted + 1) (length (with_grant (with_entry story m e) m (grant_of e)).committed) ∷ [] else (with_grant (with_entry story m e) m (grant_of e)).casts)
+          → In (Entered id k at) (with_grant (with_entry story m e) m (grant_of e)).casts
+      go true is = elim (in_either (Entered id k at) (with_grant (with_entry story m e) m (grant_of e)).casts _ is) [
+        | inl old ↦ old
+        | inr last ↦ elim last [ inl one ↦ absurd (not_sent one) | inr none_ ↦ absurd none_ ]
+      ]
+        where
+          not_sent : {x_ y_ : ℕ} → Entered id k at ≡ Sent x_ y_ → ⊥
+          not_sent one = cc
+      go false is = is
+
+  cast_stays : (answer : Option sent.Message) (c : Cast) → In c story.casts → In c (steps.counted story m sender e answer).casts
+  cast_stays answer c is =
+      answer_stays answer c (subst (λ (cs : List Cast). In c cs) (sym granted_casts) (in_front c story.casts (new_casts m (length story.committed) (grant_of e)) is))
+
+  new_is : (g : Option TxId) (id : TxId) (k at : ℕ) → In (Entered id k at) (new_casts m (length story.committed) g) → (g ≡ Some id) × (at ≡ length story.committed)
+  new_is None id k at is = absurd is
+  new_is (Some g) id k at is = elim is [ inl one ↦ (ap Some (same_id one), same_at one) | inr none_ ↦ absurd none_ ]
+    where
+      same_id : Entered id k at ≡ Entered g m (length story.committed) → g ≡ id
+      same_id one = cc
+
+      same_at : Entered id k at ≡ Entered g m (length story.committed) → at ≡ length story.committed
+      same_at one = cc
+
+  cast_back : (answer : Option sent.Message) (id : TxId) (k at : ℕ) → In (Entered id k at) (steps.counted story m sender e answer).casts
+      → In (Entered id k at) story.casts ⊎ ((grant_of e ≡ Some id) × (at ≡ length story.committed))
+  cast_back answer id k at is = elim (in_either (Entered id k at) story.casts (new_casts m (length story.committed) (grant_of e)) (subst (λ (cs : List Cast). In (Entered id k at) cs) granted_casts (answer_back answer id k at is))) [
+    | inl old ↦ inl old
+    | inr new ↦ inr (new_is (grant_of e) id k at new)
+  ]
+
 -- ---- the step
 
 counted_refused : (story : Story) (m : ℕ) (sender : Actor) (e : Option Entry) (answer : Option sent.Message) → (steps.counted story m sender e answer).refused ≡ story.refused
@@ -294,6 +365,9 @@ module _ (s : Setting) (size : ℕ) (story : Story) (st : whole.State) (m : ℕ)
     pub was : EntryWas story.begun e
     pub shows : IsShownSite s size (length story.nodes) m (node_at site).state logged
     pub handles : Handles told m site
+    pub cast : AreCast story
+    pub pointed : (t : ℕ) → In t st.world.points → In m (nodes_of s t) → has_grant (own m st.world.log) t ≡ true
+    pub grants_new : (g : TxId) → grant_of e ≡ Some g → (has_grant (own m st.world.log) (number g) ≡ false) × In m (nodes_of s (number g))
     pub answered : (p : Posted) → In p (steps.answered m sender answer) → IsShownPost s reached.world p.from p.to p.message
 
   module _ (all : IsShown s size story st) (fit : IsFit s size story) (change : IsNodeChange) where
@@ -367,6 +441,81 @@ module _ (s : Setting) (size : ℕ) (story : Story) (st : whole.State) (m : ℕ)
     stays : (y : Message) → In y st.world.posted → In y reached.world.posted
     stays y is = posted_stays s logged (map Posts ps) y (posted_stays s st.world (appending s st.world m (records_of e)) y is)
 
+    granted_points : (d : Entry) (x : TxId) (v : Vote) → is_granted v ≡ true → grant_in d ≡ (if is_granted v then Some x else None) → WasBegun story.begun x
+        → ((after s st.world (whole.event_of s st.world m (Grant (number x)))).points ≡ st.world.points)
+        ⊎ ((g : TxId) × (grant_in d ≡ Some g) × WasBegun story.begun g × ((after s st.world (whole.event_of s st.world m (Grant (number x)))).points ≡ number g ∷ st.world.points))
+    granted_points d x v right same was = go (whole.all_granted (At m (Grant (number x)) ∷ st.world.log) (number x) (nodes_of s (number x)))
+      where
+        go : (b : Bool) → ((after s st.world (cond b (Completes m (number x)) (Grants m (number x)))).points ≡ st.world.points)
+            ⊎ ((g : TxId) × (grant_in d ≡ Some g) × WasBegun story.begun g × ((after s st.world (cond b (Completes m (number x)) (Grants m (number x)))).points ≡ number g ∷ st.world.points))
+        go true = inr (x, same ∙ ap (λ (t : Bool). if t then Some x else None) right, was, refl)
+        go false = inl refl
+
+    -- the points are as before, or this entry makes one
+    points_are : (x : Option Entry) → RightIf x → EntryWas story.begun x
+        → ((after_all s st.world (appending s st.world m (records_of x))).points ≡ st.world.points)
+        ⊎ ((g : TxId) × (grant_of x ≡ Some g) × WasBegun story.begun g × ((after_all s st.world (appending s st.world m (records_of x))).points ≡ number g ∷ st.world.points))
+    points_are None right was = inl refl
+    points_are (Some (entry.Single x v writes)) right was = granted_points (entry.Single x v writes) x v right refl was
+    points_are (Some (entry.Prepared x participants v ranges writes)) right was = granted_points (entry.Prepared x participants v ranges writes) x v right refl was
+    points_are (Some (entry.Refused x (vote.Granted reads))) right was = absurd cc
+    points_are (Some (entry.Refused x (vote.Mismatch place kept))) right was = inl refl
+    points_are (Some (entry.Refused x (vote.Locked holder))) right was = inl refl
+    points_are (Some (entry.Refused x (vote.Forced floor))) right was = inl refl
+    points_are (Some (entry.Refused x (vote.Held cut))) right was = inl refl
+    points_are (Some (entry.Decided x true)) right was = inl refl
+    points_are (Some (entry.Decided x false)) right was = inl refl
+    points_are (Some (entry.Forgotten x)) right was = inl refl
+    points_are (Some (entry.Cut cut)) right was = inl refl
+    points_are (Some (entry.Floor x v)) right was = absurd right
+
+    -- nothing is cast anew on what has its point
+    not_again : (id : TxId) → IsTypedId id → (later before : List ℕ) → st.world.points ≡ later ++ number id ∷ before → grant_of e ≡ Some id → ⊥
+    not_again id typed later before split is =
+        let new = change.grants_new id is in
+        let there = change.pointed (number id) (subst (λ (l : List ℕ). In (number id) l) (sym split) (in_back (number id) later (number id ∷ before) (inl refl))) new.1 in
+        not_both (has_grant (own m st.world.log) (number id)) there new.0
+
+    old_moment : (id : TxId) → IsTypedId id → (later before : List ℕ) → st.world.points ≡ later ++ number id ∷ before → IsLastCast told.casts id (length (history s before))
+    old_moment id typed later before split =
+        last_more id (length (history s before)) story.casts told.casts (cast_stays story m sender e answer)
+        (λ k at is. elim (cast_back story m sender e answer id k at is) [ inl old ↦ old | inr new ↦ absurd (not_again id typed later before split new.0) ])
+        (all.moments id typed later before split)
+
+    new_moment : (id g : TxId) → IsTypedId id → IsTypedId g → grant_of e ≡ Some g → number g ≡ number id → IsLastCast told.casts id (length (history s st.world.points))
+    new_moment id g typed typed_g is same =
+        let one : g ≡ id = is_one g id (sym (sameness_is g id typed_g typed) ∙ eq-eqb (number g) (number id) same) in
+        let place : length story.committed ≡ length (history s st.world.points) =
+        sym (ap (length {A = ℕ}) all.history ∙ length-reverse (map number story.committed) ∙ length-map story.committed number) in
+        let here : In (Entered g m (length story.committed)) told.casts =
+        answer_stays story m sender e answer (Entered g m (length story.committed))
+        (subst (λ (cs : List Cast). In (Entered g m (length story.committed)) cs) (sym (granted_casts story m sender e))
+        (in_back (Entered g m (length story.committed)) story.casts (new_casts m (length story.committed) (grant_of e))
+        (subst (λ (o : Option TxId). In (Entered g m (length story.committed)) (new_casts m (length story.committed) o)) (sym is) (inl refl)))) in
+        record {
+          memory = m;
+          there = subst (λ (at : ℕ). In (Entered id m at) told.casts) place (subst (λ (t : TxId). In (Entered t m (length story.committed)) told.casts) one here);
+          last = λ k at there_. elim (cast_back story m sender e answer id k at there_) [
+            | inl old ↦ let few = change.cast.moments (Entered id k at) old in omega (arith, few, place)
+            | inr new ↦ let now_ = new.1 in omega (arith, now_, place)
+          ];
+        }
+
+    moment_is : (id : TxId) → IsTypedId id → (later before : List ℕ) → logged.points ≡ later ++ number id ∷ before → IsLastCast told.casts id (length (history s before))
+    moment_is id typed later before split = elim (points_are e change.right change.was) [
+      | inl same ↦ old_moment id typed later before (sym same ∙ split)
+      | inr made ↦ at_front later made.0 (sym made.3 ∙ split) made.1 made.2
+    ]
+      where
+        at_front : (l : List ℕ) (g : TxId) → number g ∷ st.world.points ≡ l ++ number id ∷ before → grant_of e ≡ Some g → WasBegun story.begun g
+            → IsLastCast told.casts id (length (history s before))
+        at_front [] g is granted was =
+            let rest : st.world.points ≡ before = cc in
+            let front : number g ≡ number id = cc in
+            subst (λ (ts : List ℕ). IsLastCast told.casts id (length (history s ts))) rest
+            (new_moment id g typed (subst (λ (t : TxId). IsTypedId t) was.2 (fit.typed was.0 was.1)) granted front)
+        at_front (t ∷ l) g is granted was = old_moment id typed l before cc
+
     pub node_shown : IsShown s size told reached
     node_shown = record {
       places = set_length (steps.counted story m sender e answer).sites m site ∙ ap (length {A = Site}) takes.sites ∙ all.places ∙ sym (ap (length {A = State}) takes.opening);
@@ -390,6 +539,7 @@ module _ (s : Setting) (size : ℕ) (story : Story) (st : whole.State) (m : ℕ)
           ∙ history_is s size story st m old all fit change.distinct change.sized change.there e change.right change.was
           ∙ ap (λ (ids : List TxId). reverse (map number ids)) (answer_committed answer);
       refused = λ id is. all.refused id (subst (λ (ids : List TxId). In id ids) (counted_refused story m sender e answer) is);
+      moments = λ id typed later before split. moment_is id typed later before (sym (posts_points s logged ps) ∙ split);
     }
       where
         takes : TakesEntry story m e (steps.counted story m sender e answer)

@@ -3,7 +3,7 @@ use Rattle.std.proofs.Common.{◌≡◌, ◌⊎◌, inl, inr, ◌≤◌, ℕ, �
 use Rattle.std.specs.List.{AllByRecursion}
 use Rattle.std.proofs.Math.Path.{fun_ext}
 use Rattle.std.proofs.lemmas.Bool.{cases_eq, eq-eqb, eqb-true, eqb-false}
-use Rattle.std.proofs.lemmas.List.{reverse-append, reverse-reverse}
+use Rattle.std.proofs.lemmas.List.{reverse-append, reverse-reverse, length-reverse}
 use Rattle.std.proofs.lemmas.List.Elements.{All-from_recursion, filter-append}
 use Rattle.lock_table.proofs.OrderLemmas.{is_one}
 use Rattle.mini_tx.specs.declared.item.Item.{Item}
@@ -12,7 +12,8 @@ use Rattle.mini_tx.specs.FlatMemory.{IsWithin, Matches, reads}
 use Rattle.mini_tx.specs.Minitransactions.{memory_of}
 use Rattle.mini_tx.specs.Order.{is_same}
 use Rattle.tx_coord.specs.declared.outcome.Outcome.TheVariants as outcome
-use Rattle.tx_coord.specs.Rules.{gathered}
+use Rattle.tx_coord.specs.Rules.{gathered, participants_of}
+use Rattle.tx_coord.specs.Rules as rules
 use Rattle.tx_coord.specs.State as coord
 use Rattle.tx_coord.specs.Votes.{Granted}
 use Rattle.tx_rules.specs.Decision as log
@@ -34,9 +35,12 @@ use Rattle.mem_laws.proofs.MiniLemmas.{minis_read_alike}
 use Rattle.coord_laws.specs.Shown.{shown_vote, shown_votes}
 use Rattle.story_rules.specs.Story.{Begun, Story}
 use Rattle.story_rules.specs.Steps.{has_write}
+use Rattle.story_rules.specs.Steps as story_steps
+use Rattle.coord_laws.proofs.ListLemmas.{participants_are}
+use Rattle.mem_laws.proofs.VoteLemmas.{several_is}
 use Rattle.story_laws.specs.Acts.{Holds}
 use Rattle.story_laws.specs.Beginnings.{WasBegun}
-use Rattle.story_shown.specs.History.{held_at_opening, flat_at, IsOutcome, OutcomesAreFlat}
+use Rattle.story_shown.specs.History.{held_at_opening, flat_at, IsOutcome, OutcomesAreFlat, IsLastCast}
 use Rattle.story_laws.proofs.BeginningLemmas.{in_map}
 use Rattle.story_shown.proofs.ShownLemmas.{HasEnded, IsShownActor, IsShownSeat, IsShown, IsFit}
 use Rattle.story_shown.proofs.FlatLemmas.{vote_reads, items_in, prefix_is, prefix_fits, next_is, behind_is, in_reverse, reverse_in, in_splits, gathered_are, vote_is, no_items}
@@ -212,6 +216,7 @@ module _ (s : Setting) (size : ℕ) (story : Story) (fit : IsFit s size story) (
         logged_at = record {
           at = place;
           within = at_fits (later ++ t ∷ []) before split_one;
+          cast = λ is. subst (λ (k : ℕ). IsLastCast story.casts b.id k) (sym (length-reverse (history s before))) (all.moments b.id (fit.typed b there) later before split);
           own = own_place b there later before split;
           matches = matched place (flat s before) same
               (match_behind s later (t ∷ before) (subst (λ (l : List ℕ). AllMatch s l) split (serial s size story fit holds inputs all sized).matches)).0;
@@ -228,6 +233,15 @@ module _ (s : Setting) (size : ℕ) (story : Story) (fit : IsFit s size story) (
 
       one : (m : ℕ) → In m (nodes_of s t) → m ≡ some.0
       one m is = one_of (nodes_of s t) m some.0 (not_several (has_several (nodes_of s t)) ((s.mini t).has_write) reader) is some.1
+
+      -- nor has it an entry in the story
+      not_logged : story_steps.is_logged b.items ≡ false
+      not_logged =
+          let nodes = nodes_of s t in
+          let same : participants_of b.items ≡ nodes = participants_are b.items ∙ sym (ap (λ (x : Mini). x.nodes) (fit.fits.minis b there)) in
+          ap (λ (l : List ℕ). rules.has_several l || has_write b.items) same
+          ∙ ap (λ (x : Bool). x || has_write b.items) (sym (several_is nodes) ∙ not_several (has_several nodes) ((s.mini t).has_write) reader)
+          ∙ sym (ap (λ (x : Mini). x.has_write) (fit.fits.minis b there)) ∙ no_write (has_several nodes) ((s.mini t).has_write) reader
 
       vote : (d : Granted) × In d grants × (d.memory ≡ some.0) × (vote_reads some.0 grants ≡ d.reads)
       vote = let it = vote_from some.0 some.1 in first_vote some.0 grants it.0 it.1 it.2
@@ -259,6 +273,7 @@ module _ (s : Setting) (size : ℕ) (story : Story) (fit : IsFit s size story) (
         reader_at read match = record {
           at = moment;
           within = at_fits later.0 before later.1;
+          cast = λ logged. absurd (not_two (story_steps.is_logged b.items) logged not_logged);
           own = λ writes. absurd (not_two ((s.mini t).has_write) (ap (λ (x : Mini). x.has_write) (fit.fits.minis b there) ∙ writes) (no_write (has_several (nodes_of s t)) ((s.mini t).has_write) reader));
           matches = matched moment (flat s before) same_then (λ m is_. subst (λ (k : ℕ). table.Matches s t k (flat s before k)) (vote.2 ∙ sym (one m is_)) match);
           reads_are = gathered_at moment (λ m. each_reader m (cases_eq m some.0));

@@ -16,6 +16,7 @@ use Rattle.mini_tx.specs.Laws.{IsTypedId}
 use Rattle.mini_tx.specs.Order.{is_same}
 use Rattle.mini_tx.specs.Minitransactions.{memory_of, place_of, bytes_of, refusal}
 use Rattle.mem_rules.specs.declared.kept.Kept.{Kept}
+use Rattle.mem_rules.specs.declared.rule.Rule.{Rule}
 use Rattle.mem_rules.specs.declared.standing.Standing.{Standing}
 use Rattle.mem_rules.specs.declared.standing.Standing.TheVariants.{Above, At, Below}
 use Rattle.mem_rules.specs.Fit.{IsInside, AreInside}
@@ -28,19 +29,20 @@ use Rattle.tx_rules.specs.Lists.{is_in}
 use Rattle.tx_rules.specs.Mini.{In, Setting, nodes_of, is_logged}
 use Rattle.tx_rules.specs.World.{World, Message, Prepare, DecideCommit, DecideAbort, Done, Forgotten}
 use Rattle.tx_actors.specs.Coordinator as machine
-use Rattle.tx_actors.specs.Node.{view}
+use Rattle.tx_actors.specs.Node.{view, has_grant, standing}
 use Rattle.tx_actors.proofs.LawLemmas.{identifiers_tell}
 use Rattle.tx_actors.proofs.TestLemmas.{In-is_in, or_left}
 use Rattle.mem_laws.specs.Cells.{number}
 use Rattle.mem_laws.specs.Laws.{IsAsked, IsNamed}
 use Rattle.mem_laws.specs.Shown.{posted}
 use Rattle.mem_laws.specs.Steps.{TakesPart, IsShownMessage, shown_answer}
-use Rattle.mem_laws.proofs.DecideLemmas.{decisions, forgetting}
+use Rattle.mem_laws.proofs.DecideLemmas.{IsShownStanding, stands, not_above, decisions, forgetting}
 use Rattle.mem_laws.proofs.ImageLemmas.{AreWritesWithin, length_written, writes_within}
 use Rattle.mem_laws.proofs.RuleLemmas.{find-In}
 use Rattle.mem_laws.proofs.VoteLemmas.{vote_is}
 use Rattle.coord_laws.specs.Shown.{shown_post}
 use Rattle.story_rules.specs.Story.{Begun, Seat, Story}
+use Rattle.story_rules.specs.Steps.{grant_in, grant_of}
 use Rattle.story_laws.specs.Beginnings.{WasBegun, IsPart, IsAboutBegun}
 use Rattle.story_laws.specs.Identifiers.{IsCounted, IsPast}
 use Rattle.story_laws.proofs.BeginningLemmas.{some_is}
@@ -124,6 +126,64 @@ module _ (n : node.Node) where
       let rule = node.rule_for n id items in
       either (node.is_new rule) (node.casts n id participants items (node.vote_by n.state.image items rule)) (node.answers n (message.Voted id (node.vote_by n.state.image items rule)))
       (casts_lengths id participants items (node.vote_by n.state.image items rule) inside) (refl, refl)
+
+-- ---- whom an entry grants
+
+module _ (n : node.Node) (id : TxId) (participants : List ℕ) (items : List PlacedItem) where
+  casts_name : (v : Vote) (g : TxId) → grant_of (node.casts n id participants items v).entry ≡ Some g → g ≡ id
+  casts_name v g = go (node.is_logged participants items)
+    where
+      by_vote : (a : Bool) → is_granted v ≡ a → (b : Bool)
+          → grant_in (if a then (if b then entry.Prepared id participants v (map range_of items) (writes_of items) else entry.Single id v (writes_of items)) else entry.Refused id v) ≡ Some g
+          → g ≡ id
+      by_vote true granted true is = some_is id g (ap (λ (t : Bool). if t then Some id else None) (sym granted) ∙ is)
+      by_vote true granted false is = some_is id g (ap (λ (t : Bool). if t then Some id else None) (sym granted) ∙ is)
+      by_vote false refused b is = absurd cc
+
+      go : (l : Bool) → grant_of (if l then node.appends n (node.entry_of_vote id participants items v) (message.Voted id v) else node.answers n (message.Voted id v)).entry ≡ Some g → g ≡ id
+      go true is = by_vote (is_granted v) refl (node.has_several participants) is
+      go false is = absurd cc
+
+  grant_names : (rule : Rule) (g : TxId) → grant_of (node.by_rule n id participants items rule).entry ≡ Some g → (g ≡ id) × (node.is_new rule ≡ true)
+  grant_names rule g = go (node.is_new rule) refl
+    where
+      go : (b : Bool) → node.is_new rule ≡ b
+          → grant_of (if b then node.casts n id participants items (node.vote_by n.state.image items rule) else node.answers n (message.Voted id (node.vote_by n.state.image items rule))).entry ≡ Some g
+          → (g ≡ id) × (node.is_new rule ≡ true)
+      go true new is = (casts_name (node.vote_by n.state.image items rule) g is, new)
+      go false old is = absurd cc
+
+-- a new vote is on an identifier above the floor
+above_of : (k : Option Kept) (x : Standing) (otherwise : Rule) → node.is_new (node.rule_by_record k (node.rule_by_floor x otherwise)) ≡ true → x ≡ Above
+above_of (Some k) x otherwise is = absurd cc
+above_of None Above otherwise is = refl
+above_of None (At v) otherwise is = absurd cc
+above_of None (Below floor) otherwise is = absurd cc
+
+forces_none : (n : node.Node) (id : TxId) (x : Standing) (a : sent.Message) → grant_of (node.forces n id x a).entry ≡ None
+forces_none n id Above a = refl
+forces_none n id (At v) a = refl
+forces_none n id (Below floor) a = refl
+
+decide_none : (n : node.Node) (id : TxId) (commit : Bool) (k : Option Kept) → grant_of (node.on_decide n id commit k).entry ≡ None
+decide_none n id commit (Some k) = go (node.is_undecided k)
+  where
+    go : (b : Bool) → grant_of (if b then node.appends n (entry.Decided id commit) (message.Done id) else node.answers n (message.Done id)).entry ≡ None
+    go true = refl
+    go false = refl
+decide_none n id true None = refl
+decide_none n id false None = forces_none n id (node.standing n.state id) (message.Done id)
+
+forget_none : (n : node.Node) (id : TxId) (k : Option Kept) → grant_of (node.on_forget n id k).entry ≡ None
+forget_none n id (Some k) = go (node.is_undecided k)
+  where
+    go : (b : Bool) → grant_of (if b then node.silent n else record { entry = Some (entry.Forgotten id); answer = None; copy = n.copy }).entry ≡ None
+    go true = refl
+    go false = refl
+forget_none n id None = refl
+
+pub no_grant : (g : TxId) → ◌≡◌ {A = Option TxId} None (Some g) → ⊥
+no_grant g is = cc
 
 -- ---- what the machine is told
 
@@ -245,3 +305,36 @@ module _ (s : Setting) (size : ℕ) (story : Story) (m : ℕ) (n : node.Node) (w
   lengths_stay (message.Drop cut) y is about = absurd cc
   lengths_stay (message.ReadCut cut place) y is about = absurd cc
   lengths_stay (message.Piece cut place bytes) y is about = absurd cc
+
+  -- what is granted was not granted before, and is the memory node's
+  abbrev IsNewGrant : TxId → Type 0
+  IsNewGrant g = (has_grant (view w m).records (number g) ≡ false) × In m (nodes_of s (number g))
+
+  new_grant : (id : TxId) → WasBegun story.begun id → In m (nodes_of s (number id)) → node.standing n.state id ≡ Above → (g : TxId) → g ≡ id → IsNewGrant g
+  new_grant id was part above g same = subst (λ (t : TxId). IsNewGrant t) (sym same) (go (has_grant (view w m).records (number id)) refl, part)
+    where
+      go : (b : Bool) → has_grant (view w m).records (number id) ≡ b → b ≡ false
+      go true granted =
+          absurd (not_above s m n (view w m) id (named id was) granted
+          (subst (λ (x : Standing). IsShownStanding x (standing s (view w m).records (number id))) above (stands s m n (view w m) id (named id was))))
+      go false other = refl
+
+  pub grants_new : (x : sent.Message) (y : Message) → shown_post x ≡ Some y → GoesTo s m x → IsAboutBegun story.begun (Memory m) x → (g : TxId) → grant_of (node.react n x).entry ≡ Some g → IsNewGrant g
+  grants_new (message.Prepare id participants items) y is goes about g granted =
+      let rule = node.rule_for n id items in
+      let names = grant_names n id participants items rule g granted in
+      new_grant id (about.0, about.1, about.2.same) goes (above_of (kept_of n.state.kept id) (node.standing n.state id) (node.rule_above n items) names.1) g names.0
+  grants_new (message.Decide id commit) y is goes about g granted = absurd (no_grant g (sym (decide_none n id commit (kept_of n.state.kept id)) ∙ granted))
+  grants_new (message.Forget id) y is goes about g granted = absurd (no_grant g (sym (forget_none n id (kept_of n.state.kept id)) ∙ granted))
+  grants_new (message.Voted id v) y is goes about g granted = absurd cc
+  grants_new (message.Done id) y is goes about g granted = absurd cc
+  grants_new message.List y is goes about g granted = absurd cc
+  grants_new (message.Kept ids cut) y is goes about g granted = absurd cc
+  grants_new (message.Ask id) y is goes about g granted = absurd cc
+  grants_new (message.Answer id ok) y is goes about g granted = absurd cc
+  grants_new (message.Hold cut) y is goes about g granted = absurd cc
+  grants_new (message.Held cut answer) y is goes about g granted = absurd cc
+  grants_new (message.Release cut) y is goes about g granted = absurd cc
+  grants_new (message.Drop cut) y is goes about g granted = absurd cc
+  grants_new (message.ReadCut cut place) y is goes about g granted = absurd cc
+  grants_new (message.Piece cut place bytes) y is goes about g granted = absurd cc

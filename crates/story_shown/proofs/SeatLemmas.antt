@@ -101,6 +101,7 @@ module _ (s : Setting) (size : ℕ) (story : Story) (st : whole.State) (all : Is
         nodes = refl;
         posted = refl;
         committed = refl;
+        casts = refl;
         adds = none story.begun;
         shows = record {
           shows = subst (λ (x : machine.Coordinator). ShowsCoordinator s step.now x) (acted_now s st n act) acting.shows.shows;
@@ -127,6 +128,7 @@ module _ (s : Setting) (size : ℕ) (story : Story) (st : whole.State) (all : Is
         nodes = refl;
         posted = refl;
         committed = refl;
+        casts = refl;
         adds = none story.begun;
         shows = actor;
         posts_show = λ o is. absurd is;

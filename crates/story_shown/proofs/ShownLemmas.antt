@@ -32,10 +32,10 @@ use Rattle.mem_laws.specs.Cells.{number}
 use Rattle.mem_laws.specs.Shown.{Shows, decision_on}
 use Rattle.mem_laws.specs.Steps.{shown_answer}
 use Rattle.coord_laws.specs.Shown.{ShowsCoordinator, shown_post, shown_votes}
-use Rattle.story_rules.specs.Story.{Begun, Seat, Site, Up, Down, Story}
+use Rattle.story_rules.specs.Story.{Begun, Seat, Site, Up, Down, Cast, Story}
 use Rattle.story_rules.specs.Steps.{log_of, has_granted, sent_by, message_at}
 use Rattle.story_laws.specs.Growth.{Adds}
-use Rattle.story_shown.specs.History.{last_id}
+use Rattle.story_shown.specs.History.{last_id, IsLastCast}
 use Rattle.story_laws.specs.Sites.{node_at}
 use Rattle.story_laws.proofs.BeginningLemmas.{in_map, some_is}
 use Rattle.story_laws.proofs.CastLemmas.{set_length}
@@ -127,6 +127,7 @@ pub record IsShown (s : Setting) (size : ℕ) (story : Story) (st : whole.State)
   pub posted : (p : Posted) → In p story.posted → IsShownPost s st.world p.from p.to p.message
   pub begun : (b : Begun) → In b story.begun → In (number b.id) st.world.begun
   pub known : (t : ℕ) → In t st.world.begun → (b : Begun) × In b story.begun × (t ≡ number b.id)
+  pub moments : (id : TxId) → IsTypedId id → (later before : List ℕ) → st.world.points ≡ later ++ number id ∷ before → IsLastCast story.casts id (length (history s before))
   pub history : history s st.world.points ≡ reverse (map number story.committed)
   pub refused : (id : TxId) → In id story.refused → HasFailed st.outcomes id
 
@@ -196,6 +197,7 @@ pub record IsSeatChange (s : Setting) (story now : Story) (n : ℕ) (seat : Seat
   pub nodes : now.nodes ≡ slice_set story.nodes n seat
   pub posted : now.posted ≡ story.posted ++ map (sent_by n) posts
   pub committed : now.committed ≡ story.committed
+  pub casts : now.casts ≡ story.casts
   pub adds : Adds story.begun now.begun
   pub shows : IsShownSeat s now.begun n seat.boot seat.actor (st.coordinator n) st.outcomes
   pub posts_show : (o : Outgoing) → In o posts → (y : Message) × In y st.world.posted × (shown_post o.message ≡ Some y) × GoesTo s o.memory o.message
@@ -239,6 +241,8 @@ seat_shown s size story now n seat posts st after follows change all = record {
   known = change.known;
   history = ap (history s) follows.points ∙ all.history ∙ ap (λ (ids : List TxId). reverse (map number ids)) (sym change.committed);
   refused = change.refused;
+  moments = λ id typed later before split.
+      subst (λ (cs : List Cast). IsLastCast cs id (length (history s before))) (sym change.casts) (all.moments id typed later before (sym follows.points ∙ split));
 }
   where
     own_seat : (x : Seat) → seat ≡ x → IsShownSeat s now.begun n x.boot x.actor (after.coordinator n) after.outcomes

@@ -147,5 +147,5 @@ module _ (size : ℕ) (story : Story) (was : IsTold size story) where
       let start = fresh_story was.images was.boots in
       let fit : IsFit s size (told start was.acts) = subst (λ (z : Story). IsFit s size z) was.is told_fit in
       subst (λ (z : Story). GoesOn s size (opened_at s [] s.start (λ c. 0)) z) (sym was.is)
-      (told_goes s size start was.acts (opened_at s [] s.start (λ c. 0)) was.may (fresh_holds was.images was.boots) fit
+      (told_goes s size start was.acts (opened_at s [] s.start (λ c. 0)) [] refl was.may (fresh_holds was.images was.boots) fit
       (fresh_shown s size was.images was.boots was.sized (fit_told s size start was.acts fit)))

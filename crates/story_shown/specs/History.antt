@@ -11,8 +11,8 @@ use Rattle.mem_rules.specs.declared.kept.Kept.{Kept}
 use Rattle.mem_rules.specs.Fit.{IsIn}
 use Rattle.mem_rules.specs.Rules.{is_above, is_undecided, standing}
 use Rattle.mem_rules.specs.State.{State}
-use Rattle.story_rules.specs.Story.{Begun, Seat, Site, Story}
-use Rattle.story_rules.specs.Steps.{log_of, has_granted, has_write, items_of, all_granted}
+use Rattle.story_rules.specs.Story.{Begun, Seat, Site, Cast, Entered, Story}
+use Rattle.story_rules.specs.Steps.{log_of, has_granted, has_write, is_logged, items_of, all_granted}
 use Rattle.story_laws.specs.Acts.{IsTold}
 use Rattle.story_laws.specs.Sites.{node_at}
 
@@ -65,11 +65,19 @@ pub record Agrees (story : Story) : Type 0 where
 abbrev pub last_id : coord.State → TxId
 last_id c = record { coord = c.coord; boot = c.boot; seq = c.begun }
 
+-- one of the votes of the identifier that have an entry was cast at this place of the history, and none later
+pub record IsLastCast (casts : List Cast) (id : TxId) (at : ℕ) : Type 0 where
+  pub memory : ℕ
+  pub there : In (Entered id memory at) casts
+  pub last : (m k : ℕ) → In (Entered id m k) casts → k ≤ at
+
 -- what ended as Committed with these reads: it matched the flat memory at a place of the history, and its reads are those
--- of this memory. A change stands in the history, and the place is its own
+-- of this memory. Where its votes have entries, the last of them was cast at this place; and a change stands in the
+-- history, and the place is its own
 pub record IsOutcome (story : Story) (b : Begun) (bytes : List (List ℕ)) : Type 0 where
   pub at : ℕ
   pub within : at ≤ length story.committed
+  pub cast : is_logged b.items ≡ true → IsLastCast story.casts b.id at
   pub own : has_write b.items ≡ true → slice_get story.committed at ≡ Some b.id
   pub matches : Matches b.items (flat_at story at)
   pub reads_are : bytes ≡ reads b.items (flat_at story at)
