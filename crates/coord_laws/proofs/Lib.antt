@@ -1,4 +1,4 @@
-mod ListLemmas
-mod ShownLemmas
-mod DoneLemmas
-mod StepLemmas
+pub mod ListLemmas
+pub mod ShownLemmas
+pub mod DoneLemmas
+pub mod StepLemmas

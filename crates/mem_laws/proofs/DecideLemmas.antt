@@ -28,7 +28,7 @@ use Rattle.mem_laws.proofs.RuleLemmas.{find-In}
 use Rattle.mem_laws.proofs.FloorLemmas.{found_in}
 
 -- an identifier stands to its floor as its number does
-abbrev IsShownStanding : Standing → machine.Standing → Type 0
+abbrev pub IsShownStanding : Standing → machine.Standing → Type 0
 IsShownStanding Above x = x ≡ machine.Above
 IsShownStanding (At vote) x = x ≡ machine.Same (reason_of vote)
 IsShownStanding (Below floor) x = x ≡ machine.Below (number floor)
@@ -54,13 +54,13 @@ module _ (s : Setting) (m : ℕ) (n : node.Node) (v : machine.View) (id : TxId) 
       go false true = refl
       go false false = refl
 
-  stands : IsShownStanding (node.standing n.state id) (machine.standing s v.records t)
+  pub stands : IsShownStanding (node.standing n.state id) (machine.standing s v.records t)
   stands =
       subst (λ o. IsShownStanding (node.standing n.state id) (machine.to_floor t o)) (sym (ap (machine.floor_of s v.records) named.coordinator ∙ named.shows.floors id.coord))
       (to_floor_is (floor_at n.state.floors id.coord) refl)
 
   -- what was granted is not above its floor
-  not_above : machine.has_grant v.records t ≡ true → machine.standing s v.records t ≡ machine.Above → ⊥
+  pub not_above : machine.has_grant v.records t ≡ true → machine.standing s v.records t ≡ machine.Above → ⊥
   not_above granted is =
       let below = subst (StandsSo s v.records t) is (standing_is s v.records t) in
       let less = below t (None, has_grant-In v.records t granted) refl in

@@ -43,7 +43,7 @@ want_cell item at [] want h = absurd h
 want_cell item at (b ∷ bytes) want h = elim h [ inl e ↦ inl (ap (λ (w : Want). w.cell) e) | inr rest ↦ inr (want_cell item (at + 1) bytes want rest) ]
 
 -- what is compared is of an item
-want_item : (items : List PlacedItem) (want : Want) → In want (wants_of items) → (p : PlacedItem) × In p items × In want.cell (cells_from (place_of p.item) (bytes_of p.item))
+pub want_item : (items : List PlacedItem) (want : Want) → In want (wants_of items) → (p : PlacedItem) × In p items × In want.cell (cells_from (place_of p.item) (bytes_of p.item))
 want_item [] want h = absurd h
 want_item (p ∷ items) want h = elim (go p.item refl h) [
   | inl here ↦ (p, inl refl, here)
@@ -106,7 +106,7 @@ written_item (p ∷ items) a v h = elim (go p.item refl h) [
     ]
 
 -- an item of a memory node is one of all
-placed_In : (place : ℕ) (items : List Item) (m : ℕ) (p : PlacedItem) → In p (placed_from place items m) → In p.item items × (memory_of p.item ≡ m)
+pub placed_In : (place : ℕ) (items : List Item) (m : ℕ) (p : PlacedItem) → In p (placed_from place items m) → In p.item items × (memory_of p.item ≡ m)
 placed_In place [] m p h = absurd h
 placed_In place (i ∷ items) m p h = go (memory_of i == m) refl (placed_In (place + 1) items m p) h
   where
@@ -403,7 +403,7 @@ minis_write_alike s t items bytes is within m a =
 -- ---- the flat memory
 
 -- what lies within one memory lies within it after writes
-still_within : (items : List Item) (bytes : Flat) → AllByRecursion (IsWithin bytes) items → (others : List Item) → AllByRecursion (IsWithin bytes) others
+pub still_within : (items : List Item) (bytes : Flat) → AllByRecursion (IsWithin bytes) items → (others : List Item) → AllByRecursion (IsWithin bytes) others
     → AllByRecursion (IsWithin (after items bytes)) others
 still_within [] bytes within others all = all
 still_within (i ∷ items) bytes within others all =

@@ -58,12 +58,12 @@ in_filter test x (y ∷ xs) is = go (test y) (in_filter test x xs) is
     go true rest h = elim h [ inl same ↦ inl same | inr later ↦ inr (rest later) ]
     go false rest h = inr (rest h)
 
-in_drop : {A : Type 0} (n : ℕ) (x : A) (xs : List A) → In x (drop n xs) → In x xs
+pub in_drop : {A : Type 0} (n : ℕ) (x : A) (xs : List A) → In x (drop n xs) → In x xs
 in_drop zero x xs is = is
 in_drop (suc n) x [] is = is
 in_drop (suc n) x (y ∷ xs) is = inr (in_drop n x xs is)
 
-in_flat : {A B : Type 0} (f : A → List B) (y : B) (xs : List A) → In y (flat_map f xs) → (x : A) × In x xs × In y (f x)
+pub in_flat : {A B : Type 0} (f : A → List B) (y : B) (xs : List A) → In y (flat_map f xs) → (x : A) × In x xs × In y (f x)
 in_flat f y [] is = absurd is
 in_flat f y (x ∷ xs) is = elim (in_either y (f x) (flat_map f xs) is) [
   | inl here ↦ (x, inl refl, here)
@@ -98,7 +98,7 @@ set_log (l ∷ logs) (suc m) (suc n) e x is = set_log logs m n e x is
 
 -- ---- a reaction is about what its message is about
 
-abbrev EntryWas : List Begun → Option Entry → Type 0
+abbrev pub EntryWas : List Begun → Option Entry → Type 0
 EntryWas begun None = ⊤
 EntryWas begun (Some e) = WasBegunIf begun (entry_of e)
 
@@ -175,7 +175,7 @@ module _ (begun : List Begun) (to : Actor) where
   hold_on n cut =
       either (node.is_copied n.copy cut) (node.answers n (message.Held cut hold.Copied)) (node.by_cut_floor n cut n.state.cut) (tt, tt) (floor_on n cut n.state.cut)
 
-  reacts_on : (n : node.Node) (here : Actor) (x : Message) → IsAboutBegun begun here x → ReactsOn begun to (node.react n x)
+  pub reacts_on : (n : node.Node) (here : Actor) (x : Message) → IsAboutBegun begun here x → ReactsOn begun to (node.react n x)
   reacts_on n here (message.Prepare id participants items) was = prepare_on n id participants items (was.0, was.1, was.2.same)
   reacts_on n here (message.Decide id commit) was = decide_on n id commit (kept_of n.state.kept id) was
   reacts_on n here (message.Forget id) was = forget_on n id (kept_of n.state.kept id) was
@@ -371,7 +371,7 @@ vote_on begun c m id v (coord.Runs r) on at = go (rules.counts r m id v)
     go false = quiet_on begun c at
 vote_on begun c m id v (coord.Ended outcome) on at = quiet_on begun c at
 
-noted_id : (m : ℕ) (id : TxId) (f : Finishing) → (rules.noted m id f).id ≡ f.id
+pub noted_id : (m : ℕ) (id : TxId) (f : Finishing) → (rules.noted m id f).id ≡ f.id
 noted_id m id f = go (is_same f.id id)
   where
     now : Finishing

@@ -60,11 +60,11 @@ casts_both m (Sent k at ∷ xs) ys = casts_both m xs ys
 -- ---- what an entry and its cast make
 
 -- the votes that are cast where an entry with this Granted vote is appended
-abbrev new_casts : ℕ → ℕ → Option TxId → List Cast
+abbrev pub new_casts : ℕ → ℕ → Option TxId → List Cast
 new_casts m at None = []
 new_casts m at (Some id) = Entered id m at ∷ []
 
-grant_casts : (story : Story) (m : ℕ) (g : Option TxId) → (with_grant story m g).casts ≡ story.casts ++ new_casts m (length story.committed) g
+pub grant_casts : (story : Story) (m : ℕ) (g : Option TxId) → (with_grant story m g).casts ≡ story.casts ++ new_casts m (length story.committed) g
 grant_casts story m None = sym (append-nil story.casts)
 grant_casts story m (Some id) = refl
 

@@ -21,7 +21,7 @@ use Rattle.story_laws.specs.Growth.{Adds, AddsPoint, IsGrantedByAll, AreGranted,
 
 -- ---- lists
 
-none : {A : Type 0} (xs : List A) → Adds xs xs
+pub none : {A : Type 0} (xs : List A) → Adds xs xs
 none xs = ([], sym (append-nil xs))
 
 more : {A : Type 0} (xs ys : List A) → Adds xs (xs ++ ys)

@@ -37,7 +37,7 @@ get_other (z ∷ xs) zero (suc m) y other = refl
 get_other (z ∷ xs) (suc n) zero y other = refl
 get_other (z ∷ xs) (suc n) (suc m) y other = get_other xs n m y (λ is. other (ap suc is))
 
-get_none : (xs : List Seat) (n : ℕ) (y : Seat) → slice_get xs n ≡ None → slice_set xs n y ≡ xs
+pub get_none : (xs : List Seat) (n : ℕ) (y : Seat) → slice_get xs n ≡ None → slice_set xs n y ≡ xs
 get_none [] n y is = refl
 get_none (z ∷ xs) zero y is = absurd cc
 get_none (z ∷ xs) (suc n) y is = ap (λ (l : List Seat). z ∷ l) (get_none xs n y is)
@@ -87,7 +87,7 @@ vote_same c m id v coord.Free = itself c
 vote_same c m id v (coord.Runs r) = voted_same c (rules.counts r m id v) (rules.counted r m v)
 vote_same c m id v (coord.Ended outcome) = itself c
 
-heard_same : (c : coord.State) (m : ℕ) (x : Message) → IsSame c (rules.heard c m x).now
+pub heard_same : (c : coord.State) (m : ℕ) (x : Message) → IsSame c (rules.heard c m x).now
 heard_same c m (message.Voted id v) = vote_same c m id v c.phase
 heard_same c m (message.Done id) = record { coord = refl; boot = refl; begun = refl }
 heard_same c m (message.Prepare id participants items) = itself c
@@ -104,7 +104,7 @@ heard_same c m (message.Drop cut) = itself c
 heard_same c m (message.ReadCut cut place) = itself c
 heard_same c m (message.Piece cut place bytes) = itself c
 
-from_same : (c : coord.State) (from : Actor) (x : Message) → IsSame c (steps.heard_from c from x).now
+pub from_same : (c : coord.State) (from : Actor) (x : Message) → IsSame c (steps.heard_from c from x).now
 from_same c (Memory m) x = heard_same c m x
 from_same c (Node n) x = itself c
 from_same c Manager x = itself c
@@ -213,7 +213,7 @@ reacted_same story m k sender n r Stopped = moved story (steps.counted story m s
 reacted_same story m k sender n r WentDown = moved story story m (Down n (Some k)) (untouched story)
 reacted_same story m k sender n r WasFull = moved story story m (Down n None) (untouched story)
 
-memory_same : (story : Story) (m k : ℕ) (p : Posted) (how : How) (site : Option Site) → HaveSame story (steps.to_memory story m k p how site)
+pub memory_same : (story : Story) (m k : ℕ) (p : Posted) (how : How) (site : Option Site) → HaveSame story (steps.to_memory story m k p how site)
 memory_same story m k p how None = untouched story
 memory_same story m k p how (Some (Up n)) = reacted_same story m k p.from n (reaction n p.message) how
 memory_same story m k p how (Some (Down n handling)) = untouched story
@@ -225,13 +225,13 @@ found_same story m n true (Some p) =
     let r = reaction n p.message in
     moved story (steps.counted story m p.from r.entry None) m (Up (with_state r.now.state)) (counted_same story m p.from r.entry None)
 
-site_same : (story : Story) (m : ℕ) (found : Bool) (site : Option Site) → HaveSame story (steps.from_site story m found site)
+pub site_same : (story : Story) (m : ℕ) (found : Bool) (site : Option Site) → HaveSame story (steps.from_site story m found site)
 site_same story m found None = untouched story
 site_same story m found (Some (Up n)) = untouched story
 site_same story m found (Some (Down n None)) = moved story story m (Up (with_state n.state)) (untouched story)
 site_same story m found (Some (Down n (Some k))) = found_same story m n found (steps.message_at story k)
 
-fallen_same : (story : Story) (m : ℕ) (site : Option Site) → HaveSame story (steps.fallen story m site)
+pub fallen_same : (story : Story) (m : ℕ) (site : Option Site) → HaveSame story (steps.fallen story m site)
 fallen_same story m None = untouched story
 fallen_same story m (Some (Up n)) = moved story story m (Down n None) (untouched story)
 fallen_same story m (Some (Down n handling)) = untouched story
@@ -298,7 +298,7 @@ started_counted story n boot next counted = go (slice_get story.nodes n) refl
 
 -- ---- the opening
 
-empty_seat : (boots : List ℕ) (n : ℕ) (seat : Seat) → slice_get (map (λ (boot : ℕ). let s : Seat = record { boot = boot; actor = None } in s) boots) n ≡ Some seat → seat.actor ≡ None
+pub empty_seat : (boots : List ℕ) (n : ℕ) (seat : Seat) → slice_get (map (λ (boot : ℕ). let s : Seat = record { boot = boot; actor = None } in s) boots) n ≡ Some seat → seat.actor ≡ None
 empty_seat [] n seat is = absurd cc
 empty_seat (boot ∷ boots) zero seat is = ap (λ (s : Seat). s.actor) (sym (some_one (record { boot = boot; actor = None }) seat is))
 empty_seat (boot ∷ boots) (suc n) seat is = empty_seat boots n seat is

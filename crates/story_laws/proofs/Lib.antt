@@ -1,9 +1,10 @@
-mod GrowthLemmas
-mod IdentifierLemmas
-mod CastLemmas
-mod BeginningLemmas
-mod CompleteLemmas
-mod SiteLemmas
-mod VoteLemmas
-mod CommitLemmas
-mod OutcomeLemmas
+pub mod GrowthLemmas
+pub mod IdentifierLemmas
+pub mod CastLemmas
+pub mod BeginningLemmas
+pub mod CompleteLemmas
+pub mod SiteLemmas
+pub mod VoteLemmas
+pub mod CommitLemmas
+pub mod OutcomeLemmas
+pub mod ActLemmas

@@ -24,7 +24,7 @@ use Rattle.story_laws.proofs.GrowthLemmas.{true_both}
 
 -- ---- what was begun under one identifier is one
 
-same_begun : (begun : List Begun) (b d : Begun) → AreDistinct begun → In b begun → In d begun → b.id ≡ d.id → b ≡ d
+pub same_begun : (begun : List Begun) (b d : Begun) → AreDistinct begun → In b begun → In d begun → b.id ≡ d.id → b ≡ d
 same_begun [] b d distinct here there same = absurd here
 same_begun (x ∷ begun) b d distinct here there same = go here there (same_begun begun b d distinct.1)
   where
@@ -34,7 +34,7 @@ same_begun (x ∷ begun) b d distinct here there same = go here there (same_begu
     go (inr later) (inl other) rest = absurd (distinct.0 b later (same ∙ ap (λ (y : Begun). y.id) other))
     go (inr later) (inr last) rest = rest later last same
 
-own_items : (begun : List Begun) (b : Begun) → AreDistinct begun → In b begun → steps.items_of begun b.id ≡ b.items
+pub own_items : (begun : List Begun) (b : Begun) → AreDistinct begun → In b begun → steps.items_of begun b.id ≡ b.items
 own_items [] b distinct is = absurd is
 own_items (x ∷ begun) b distinct is = elim is [
   | inl same ↦

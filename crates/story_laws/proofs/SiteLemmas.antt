@@ -30,11 +30,11 @@ abbrev pub with_one : List (List Entry) → ℕ → Option Entry → List (List 
 with_one logs m None = logs
 with_one logs m (Some e) = slice_set logs m (slice_index_or logs m [] ++ e ∷ [])
 
-one_length : (logs : List (List Entry)) (m : ℕ) (e : Option Entry) → length (with_one logs m e) ≡ length logs
+pub one_length : (logs : List (List Entry)) (m : ℕ) (e : Option Entry) → length (with_one logs m e) ≡ length logs
 one_length logs m None = refl
 one_length logs m (Some e) = set_length logs m (slice_index_or logs m [] ++ e ∷ [])
 
-one_here : (logs : List (List Entry)) (m : ℕ) (e : Option Entry) (s : State) → m < length logs
+pub one_here : (logs : List (List Entry)) (m : ℕ) (e : Option Entry) (s : State) → m < length logs
     → after_one (after s (slice_index_or logs m [])) e ≡ after s (slice_index_or (with_one logs m e) m [])
 one_here logs m None s within = refl
 one_here logs m (Some e) s within =
@@ -62,7 +62,7 @@ made_more opening logs sites m old now e within there takes made n state site op
 -- ---- a memory node's step
 
 -- two stories with the same opening, logs and sites
-record LeavesSites (before now : Story) : Type 0 where
+pub record LeavesSites (before now : Story) : Type 0 where
   pub opening : now.opening ≡ before.opening
   pub logs : now.logs ≡ before.logs
   pub sites : now.sites ≡ before.sites
@@ -206,7 +206,7 @@ crashed_on story Manager all = all
 
 -- ---- the opening
 
-opened_site : (states : List State) (m : ℕ) (state : State) (site : Site) → slice_get states m ≡ Some state → slice_get (map (λ (s : State). Up (with_state s)) states) m ≡ Some site
+pub opened_site : (states : List State) (m : ℕ) (state : State) (site : Site) → slice_get states m ≡ Some state → slice_get (map (λ (s : State). Up (with_state s)) states) m ≡ Some site
     → (node_at site).state ≡ state
 opened_site [] m state site open_ is = absurd cc
 opened_site (s ∷ states) zero state site open_ is = ap (λ (x : Site). (node_at x).state) (some_is (Up (with_state s)) site is) ∙ sym (some_is s state open_)

@@ -120,24 +120,24 @@ raised_is floors id v c f is = elim (set_or floors id.coord c (raised (floor_at 
 
 -- ---- one entry more in a log
 
-abbrev IsRight : Entry → Type 0
-IsRight (entry.Single id v writes) = ⊤
-IsRight (entry.Prepared id participants v ranges writes) = ⊤
+abbrev pub IsRight : Entry → Type 0
+IsRight (entry.Single id v writes) = is_granted v ≡ true
+IsRight (entry.Prepared id participants v ranges writes) = is_granted v ≡ true
 IsRight (entry.Refused id v) = is_granted v ≡ false
 IsRight (entry.Decided id commit) = ⊤
 IsRight (entry.Forgotten id) = ⊤
 IsRight (entry.Cut cut) = ⊤
 IsRight (entry.Floor id v) = ⊥
 
-abbrev RightIf : Option Entry → Type 0
+abbrev pub RightIf : Option Entry → Type 0
 RightIf None = ⊤
 RightIf (Some e) = IsRight e
 
-has_new : (id : TxId) (log : List Entry) (e : Entry) → is_of id (grant_in e) ≡ true → has_granted id (log ++ e ∷ []) ≡ true
+pub has_new : (id : TxId) (log : List Entry) (e : Entry) → is_of id (grant_in e) ≡ true → has_granted id (log ++ e ∷ []) ≡ true
 has_new id [] e is = or_true (is_of id (grant_in e)) (has_granted id []) is
 has_new id (x ∷ log) e is = or_right (is_of id (grant_in x)) (has_granted id (log ++ e ∷ [])) (has_new id log e is)
 
-grant_is : (id : TxId) (v : Vote) → is_granted v ≡ true → is_of id (if is_granted v then Some id else None) ≡ true
+pub grant_is : (id : TxId) (v : Vote) → is_granted v ≡ true → is_of id (if is_granted v then Some id else None) ≡ true
 grant_is id v granted = ap (λ (b : Bool). is_of id (if b then Some id else None)) granted ∙ same_self id
 
 abbrev FloorsIn : List (Option Floor) → List Entry → Type 0
@@ -232,14 +232,14 @@ voted_is a b v w is = (cc, cc)
 false_true : ◌≡◌ {A = Bool} false true → ⊥
 false_true is = cc
 
-memory_is : (m n : ℕ) → ◌≡◌ {A = Actor} (Memory m) (Memory n) → m ≡ n
+pub memory_is : (m n : ℕ) → ◌≡◌ {A = Actor} (Memory m) (Memory n) → m ≡ n
 memory_is m n is = cc
 
 module _ (begun : List Begun) (log : List Entry) (m : ℕ) where
   abbrev Vouched : TxId → Option Entry → Type 0
   Vouched id e = (has_granted id log ≡ true) ⊎ ((is_of id (grant_of e) ≡ true) ⊎ ((b : Begun) × In b begun × (b.id ≡ id) × IsLook b.items m))
 
-  abbrev VotesWell : node.Reaction → Type 0
+  abbrev pub VotesWell : node.Reaction → Type 0
   VotesWell r = RightIf r.entry × ((id : TxId) (reads : List (List ℕ)) → r.answer ≡ Some (message.Voted id (vote.Granted reads)) → Vouched id r.entry)
 
   either : (b : Bool) (r q : node.Reaction) → VotesWell r → VotesWell q → VotesWell (if b then r else q)
@@ -268,8 +268,8 @@ module _ (begun : List Begun) (log : List Entry) (m : ℕ) where
       where
         go : (a : Bool) → is_granted v ≡ a → (c : Bool)
             → IsRight (if a then (if c then entry.Prepared id participants v (map range_of items) (writes_of items) else entry.Single id v (writes_of items)) else entry.Refused id v)
-        go true is true = tt
-        go true is false = tt
+        go true is true = is
+        go true is false = is
         go false is c = is
 
     refuses : (v : Vote) → is_granted v ≡ false → VotesWell (node.casts n id participants items v)
@@ -370,7 +370,7 @@ module _ (begun : List Begun) (log : List Entry) (m : ℕ) where
       by_rules b there n id participants items part.same part.participants_are (part.items_are ∙ ap (λ (k : ℕ). rules.placed_for b.items k) here) all
       (kept_of n.state.kept id) refl (node.standing n.state id) refl (node.held_cut n.copy) (node.least_holder n.state (map range_of items)) (first_difference n.state.image items)
 
-  votes_well : (n : node.Node) (x : Message) → IsAboutBegun begun (Memory m) x → AreInLog n.state log → VotesWell (node.react n x)
+  pub votes_well : (n : node.Node) (x : Message) → IsAboutBegun begun (Memory m) x → AreInLog n.state log → VotesWell (node.react n x)
   votes_well n (message.Prepare id participants items) about all = prepare_on n id participants items about.0 about.1 about.2 all
   votes_well n (message.Decide id commit) about all = decide_on n id commit (kept_of n.state.kept id)
   votes_well n (message.Forget id) about all = forget_on n id (kept_of n.state.kept id)
@@ -388,7 +388,7 @@ module _ (begun : List Begun) (log : List Entry) (m : ℕ) where
   votes_well n (message.Piece cut place bytes) about all = silently (node.silent n) tt refl
 
 -- who is asked to vote is a memory node
-to_some : (begun : List Begun) (to : Actor) (x : Message) → IsAboutBegun begun to x → (k : ℕ) × IsAboutBegun begun (Memory k) x
+pub to_some : (begun : List Begun) (to : Actor) (x : Message) → IsAboutBegun begun to x → (k : ℕ) × IsAboutBegun begun (Memory k) x
 to_some begun to (message.Prepare id participants items) about =
     (about.2.memory, subst (λ (t : Actor). IsAboutBegun begun t (message.Prepare id participants items)) about.2.receiver about)
 to_some begun to (message.Voted id v) about = (0, about)
@@ -433,13 +433,13 @@ told story all = record { entries = all.entries; votes = all.votes; counts = all
 
 -- ---- a memory node's step
 
-entry_here : (logs : List (List Entry)) (m : ℕ) (e : Option Entry) (s : State) → m < length logs → RightIf e → AreInLog s (slice_index_or logs m [])
+pub entry_here : (logs : List (List Entry)) (m : ℕ) (e : Option Entry) (s : State) → m < length logs → RightIf e → AreInLog s (slice_index_or logs m [])
     → AreInLog (after_one s e) (slice_index_or (with_one logs m e) m [])
 entry_here logs m None s within right all = all
 entry_here logs m (Some e) s within right all =
     subst (λ (l : List Entry). AreInLog (after_entry s e) l) (sym (set_here logs m (slice_index_or logs m [] ++ e ∷ []) within)) (in_log_after s (slice_index_or logs m []) e right all)
 
-entry_there : (logs : List (List Entry)) (m n : ℕ) (e : Option Entry) → ¬ (n ≡ m) → slice_index_or logs n [] ≡ slice_index_or (with_one logs m e) n []
+pub entry_there : (logs : List (List Entry)) (m n : ℕ) (e : Option Entry) → ¬ (n ≡ m) → slice_index_or logs n [] ≡ slice_index_or (with_one logs m e) n []
 entry_there logs m n None other = refl
 entry_there logs m n (Some e) other = sym (set_there logs m n (slice_index_or logs m [] ++ e ∷ []) other)
 
@@ -448,7 +448,7 @@ granted_here logs m None id within is = absurd cc
 granted_here logs m (Some e) id within is =
     subst (λ (l : List Entry). has_granted id l ≡ true) (sym (set_here logs m (slice_index_or logs m [] ++ e ∷ []) within)) (has_new id (slice_index_or logs m []) e is)
 
-counted_posted : (story : Story) (m : ℕ) (sender : Actor) (e : Option Entry) (answer : Option Message) → (steps.counted story m sender e answer).posted ≡ story.posted ++ steps.answered m sender answer
+pub counted_posted : (story : Story) (m : ℕ) (sender : Actor) (e : Option Entry) (answer : Option Message) → (steps.counted story m sender e answer).posted ≡ story.posted ++ steps.answered m sender answer
 counted_posted story m sender e answer =
     by_answer (with_grant (with_entry story m e) m (grant_of e)) answer
     ∙ ap (λ (ps : List Posted). ps ++ steps.answered m sender answer) (by_grant (with_entry story m e) (grant_of e) ∙ by_entry e)
@@ -622,7 +622,7 @@ record IsSeatStep (story : Story) (n : ℕ) (seat : Seat) (posts : List Outgoing
   pub grows : Grows story now
   pub counts : AreCountedIf story seat.actor
 
-node_from : (n m : ℕ) → ◌≡◌ {A = Actor} (Node n) (Memory m) → ⊥
+pub node_from : (n m : ℕ) → ◌≡◌ {A = Actor} (Node n) (Memory m) → ⊥
 node_from n m is = cc
 
 seat_stepped : (story : Story) (n : ℕ) (seat : Seat) (posts : List Outgoing) (now : Story) → IsSeatStep story n seat posts now → AreTold story → AreTold now

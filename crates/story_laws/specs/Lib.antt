@@ -7,3 +7,4 @@ pub mod Sites
 pub mod Votes
 pub mod Committed
 pub mod Outcomes
+pub mod Acts

@@ -1,4 +1,5 @@
 //! Laws of the story of a cluster.
+ghost use Rattle.story_laws.specs.Acts.{StoriesGoOn, ToldStoriesHold};
 ghost use Rattle.story_laws.specs.Beginnings.{NamedWasBegun};
 ghost use Rattle.story_laws.specs.Casts.{CastsAreTheEntries};
 ghost use Rattle.story_laws.specs.Committed.{CommittedIsVoted};
@@ -60,4 +61,14 @@ pub fn committed_is_voted()
 /// So a change that a coordinator ends as Committed has its place in the history.
 pub fn committed_is_a_change()
     ensures { CommittedIsAChange }
+{}
+
+/// A story that is told goes on with whatever may happen.
+pub fn stories_go_on()
+    ensures { StoriesGoOn }
+{}
+
+/// All of these laws hold of each story that is told of a cluster that was formatted.
+pub fn told_stories_hold()
+    ensures { ToldStoriesHold }
 {}

@@ -9,5 +9,5 @@ mod laws;
 pub use laws::{
     casts_are_the_entries, changes_are_granted, committed_is_a_change, committed_is_voted,
     granted_are_changes, identifiers_are_begun_once, sites_are_the_logs, steps_only_add,
-    votes_have_entries, what_is_named_was_begun,
+    stories_go_on, told_stories_hold, votes_have_entries, what_is_named_was_begun,
 };
