@@ -6,23 +6,44 @@ use Rattle.sfs.specs.declared.status.Status.{Status}
 use Rattle.sfs.specs.declared.status.Status.TheVariants as status
 use Rattle.line_stream.specs.declared.stop.Stop.TheVariants as stop
 use Rattle.sfs.specs.Replay.{Came, Stopped}
+use Rattle.tree_command.specs.declared.ending.Ending.TheVariants as listed
+use Rattle.tree_command.specs.Command.{WasBegun, WasTold}
+use Rattle.tree_command.specs.Reading.{OfText}
 
 -- the words are the one word `replay`, by the bytes of each
 abbrev pub AsksReplay : List (List ℕ) → Type 0
 AsksReplay words = words ≡ codes "replay" ∷ []
 
+-- the words are the one word `tree`
+abbrev pub AsksTree : List (List ℕ) → Type 0
+AsksTree words = words ≡ codes "tree" ∷ []
+
 -- what was written to a sink that tells it, for a source that tells its text: the lines of a legal transcript that ends in
--- `end` (Done) or in `refused N` (Refused), or else the front of those lines that a run was stopped at; nothing for other words
+-- `end` (Done) or in `refused N` (Refused), or else the front of those lines that a run was stopped at
 abbrev pub Transcribes : Option (List ℕ) → Option (List ℕ) → Option (List ℕ) → Option (List ℕ) → Status → Type 0
 Transcribes left left' held held' status.Done = Came left held held' ending.Ended
 Transcribes left left' held held' status.Differs = ⊥
-Transcribes left left' held held' status.Usage = (left' ≡ left) × (held' ≡ held)
+Transcribes left left' held held' status.Usage = ⊥
 Transcribes left left' held held' status.Refused = Came left held held' ending.Refused
 Transcribes left left' held held' status.ReadFault = Stopped left left' held held' stop.ReadFault
 Transcribes left left' held held' status.WriteFault = Stopped left left' held held' stop.WriteFault
 Transcribes left left' held held' status.NoMemory = Stopped left left' held held' stop.NoMemory
 Transcribes left left' held held' status.DiskFault = ⊥
 Transcribes left left' held held' status.PortFault = ⊥
+
+-- what was written to a sink that tells it, for a source that tells its bytes: the listing of the tree that these bytes stand
+-- for (Done), or the line of the fault that is theirs (Refused); nothing where the source failed, and the front of what is due
+-- where the sink did
+abbrev pub TellsTree : Option (List ℕ) → Option (List ℕ) → Option (List ℕ) → Status → Type 0
+TellsTree left held held' status.Done = OfText left (WasTold held held' listed.Listed)
+TellsTree left held held' status.Differs = ⊥
+TellsTree left held held' status.Usage = ⊥
+TellsTree left held held' status.Refused = OfText left (WasTold held held' listed.Refused)
+TellsTree left held held' status.ReadFault = held' ≡ held
+TellsTree left held held' status.WriteFault = OfText left (WasBegun held held')
+TellsTree left held held' status.NoMemory = Unit {0}
+TellsTree left held held' status.DiskFault = ⊥
+TellsTree left held held' status.PortFault = ⊥
 
 -- a fault is answered where the count of its object rose in this run, and the other count stayed; else both stayed
 abbrev pub Causes : ℕ → ℕ → ℕ → ℕ → Status → Type 0
