@@ -1,0 +1,7 @@
+//! Laws of work sets.
+ghost use Rattle.plan_laws.specs.Kept.{KeptIsInOrder};
+
+/// A work set in order is in order again once a part that it tells was read and is held.
+pub fn kept_is_in_order()
+    ensures { KeptIsInOrder }
+{}
