@@ -22,3 +22,4 @@ mod slots;
 mod stored;
 
 pub use good::is_good;
+pub use name::is_name;

@@ -3,8 +3,9 @@ ghost use Rattle.fs_rules.specs.Good.{IsName};
 
 use fs_rules::MAX_NAME_BYTES;
 
-// Whether a slot may have this name.
-pub(crate) fn is_name(name: &[u8]) -> bool
+/// Whether a slot of a directory may have this name: 1 to 255 bytes, none of them 0 or a slash, and neither "." nor ".."
+/// (`docs/FORMATS.md`, "The rules of the file system"). It takes no memory.
+pub fn is_name(name: &[u8]) -> bool
     ensures { IsTrue result ↔ IsName name.now }
 {
     !name.is_empty()
