@@ -15,7 +15,7 @@ contained [] x k below e = absurd (omega (arith, below))
 contained (y ∷ xs) x zero below e = inl (sym e)
 contained (y ∷ xs) x (suc k) below e = inr (contained xs x k (omega (arith, below)) e)
 
-contains : (xs : List ℕ) (x : ℕ) → In x xs → Contains xs x
+pub contains : (xs : List ℕ) (x : ℕ) → In x xs → Contains xs x
 contains [] x h = absurd h
 contains (y ∷ xs) x h = elim h [
   | inl e ↦ (0, omega arith, sym e)

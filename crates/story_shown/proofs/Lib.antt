@@ -12,3 +12,4 @@ mod SoundLemmas
 mod LawLemmas
 mod OutcomeLemmas
 mod ImageLemmas
+mod MessageLemmas

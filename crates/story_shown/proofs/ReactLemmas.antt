@@ -187,7 +187,7 @@ no_grant g is = cc
 
 -- ---- what the machine is told
 
-known_coord : (story : Story) (b : Begun) (seat : Option Seat) → slice_get story.nodes b.id.coord ≡ seat → IsPast seat b.id → b.id.coord < length story.nodes
+pub known_coord : (story : Story) (b : Begun) (seat : Option Seat) → slice_get story.nodes b.id.coord ≡ seat → IsPast seat b.id → b.id.coord < length story.nodes
 known_coord story b None is past = absurd past
 known_coord story b (Some seat) is past = slice_get_within story.nodes b.id.coord seat is
 

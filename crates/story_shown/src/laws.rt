@@ -1,5 +1,6 @@
 //! Laws of the story of a cluster, by the machine in which it shows.
 ghost use Rattle.story_shown.specs.History.{ToldStoriesAreFlat};
+ghost use Rattle.story_shown.specs.Messages.{PostedAreFit};
 ghost use Rattle.story_shown.specs.Fits.{StoriesFit, PreparesAreTold, CellsAreTheBytes};
 
 /// There is a table that fits a story.
@@ -22,4 +23,9 @@ pub fn cells_are_the_bytes()
 /// and a change its own; no refused identifier commits; and memory nodes hold this memory but for what is locked.
 pub fn told_stories_are_flat()
     ensures { ToldStoriesAreFlat }
+{}
+
+/// Each message that was posted to a memory node is one that it may be sent.
+pub fn posted_are_fit()
+    ensures { PostedAreFit }
 {}
