@@ -1,0 +1,4 @@
+mod ToldLemmas
+mod UnfitLemmas
+mod GroupLemmas
+mod ReadsLemmas
