@@ -3,4 +3,4 @@ pub mod BookLemmas
 pub mod EventLemmas
 pub mod ReplayLemmas
 pub mod OpenLemmas
-pub mod RunLemmas
+pub mod CommandLemmas

@@ -5,4 +5,5 @@ pub mod Legal
 pub mod World
 pub mod Replay
 pub mod Status
+pub mod Command
 pub mod Run

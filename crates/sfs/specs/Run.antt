@@ -1,25 +1,22 @@
 -- What a run of the program owes: what it wrote, which status it ends in, and which fault that names.
-use Rattle.std.specs.Prelude.{◌≡◌, ℕ, List, [], ◌∷◌, codes, Option}
+use Rattle.std.specs.Prelude.{◌≡◌, ℕ, List, Option, Some, None}
 use Rattle.sfs_base.specs.Fault.{Rose}
+use Rattle.schedule_text.specs.Stream.{Puts}
+use Rattle.line_stream.specs.Output.{WritesFront}
+use Rattle.line_stream.specs.declared.stop.Stop.TheVariants as stop
+use Rattle.make_command.specs.Made.{made_text}
+use Rattle.sfs.specs.declared.command.Command.{Command}
+use Rattle.sfs.specs.declared.command.Command.TheVariants as command
 use Rattle.sfs.specs.declared.ending.Ending.TheVariants as ending
 use Rattle.sfs.specs.declared.status.Status.{Status}
 use Rattle.sfs.specs.declared.status.Status.TheVariants as status
-use Rattle.line_stream.specs.declared.stop.Stop.TheVariants as stop
 use Rattle.sfs.specs.Replay.{Came, Stopped}
 use Rattle.tree_command.specs.declared.ending.Ending.TheVariants as listed
 use Rattle.tree_command.specs.Command.{WasBegun, WasTold}
 use Rattle.tree_command.specs.Reading.{OfText}
 
--- the words are the one word `replay`, by the bytes of each
-abbrev pub AsksReplay : List (List ℕ) → Type 0
-AsksReplay words = words ≡ codes "replay" ∷ []
-
--- the words are the one word `tree`
-abbrev pub AsksTree : List (List ℕ) → Type 0
-AsksTree words = words ≡ codes "tree" ∷ []
-
--- what was written to a sink that tells it, for a source that tells its text: the lines of a legal transcript that ends in
--- `end` (Done) or in `refused N` (Refused), or else the front of those lines that a run was stopped at
+-- `replay`: what was written to a sink that tells it, for a source that tells its text: the lines of a legal transcript that
+-- ends in `end` (Done) or in `refused N` (Refused), or else the front of those lines that a run was stopped at
 abbrev pub Transcribes : Option (List ℕ) → Option (List ℕ) → Option (List ℕ) → Option (List ℕ) → Status → Type 0
 Transcribes left left' held held' status.Done = Came left held held' ending.Ended
 Transcribes left left' held held' status.Differs = ⊥
@@ -31,7 +28,7 @@ Transcribes left left' held held' status.NoMemory = Stopped left left' held held
 Transcribes left left' held held' status.DiskFault = ⊥
 Transcribes left left' held held' status.PortFault = ⊥
 
--- what was written to a sink that tells it, for a source that tells its bytes: the listing of the tree that these bytes stand
+-- `tree`: what was written to a sink that tells it, for a source that tells its bytes: the listing of the tree that these bytes stand
 -- for (Done), or the line of the fault that is theirs (Refused); nothing where the source failed, and the front of what is due
 -- where the sink did
 abbrev pub TellsTree : Option (List ℕ) → Option (List ℕ) → Option (List ℕ) → Status → Type 0
@@ -44,6 +41,25 @@ TellsTree left held held' status.WriteFault = OfText left (WasBegun held held')
 TellsTree left held held' status.NoMemory = Unit {0}
 TellsTree left held held' status.DiskFault = ⊥
 TellsTree left held held' status.PortFault = ⊥
+
+-- `make`: the whole text was written (Done), or a front of it
+abbrev pub Makes : List ℕ → Option (List ℕ) → Option (List ℕ) → Status → Type 0
+Makes text held held' status.Done = Puts held held' text
+Makes text held held' status.Differs = ⊥
+Makes text held held' status.Usage = ⊥
+Makes text held held' status.Refused = ⊥
+Makes text held held' status.ReadFault = ⊥
+Makes text held held' status.WriteFault = (rest : List ℕ) × WritesFront held held' text rest
+Makes text held held' status.NoMemory = (rest : List ℕ) × WritesFront held held' text rest
+Makes text held held' status.DiskFault = ⊥
+Makes text held held' status.PortFault = ⊥
+
+-- what a run did with its streams, by what was asked for; where that was nothing, it touched neither
+abbrev pub Ran : Option Command → Option (List ℕ) → Option (List ℕ) → Option (List ℕ) → Option (List ℕ) → Status → Type 0
+Ran None left left' held held' s = (s ≡ status.Usage) × (left' ≡ left) × (held' ≡ held)
+Ran (Some command.Replay) left left' held held' s = Transcribes left left' held held' s
+Ran (Some command.Tree) left left' held held' s = TellsTree left held held' s
+Ran (Some (command.Make seed count)) left left' held held' s = (left' ≡ left) × Makes (made_text seed count) held held' s
 
 -- a fault is answered where the count of its object rose in this run, and the other count stayed; else both stayed
 abbrev pub Causes : ℕ → ℕ → ℕ → ℕ → Status → Type 0

@@ -1,7 +1,7 @@
 //! The program `sfs`: it replays a schedule of arrivals over one plain file system, and writes the
 //! transcript.
 //!
-//! - [`run`]: the words of the command line, an input and an output, to a status.
+//! - [`run`]: the words of the command line, an input and an output, to a status; `command`: what the words ask for.
 //! - `replay`, `turn`, `ending`: the turns of a replay; `transcript`: what it writes.
 //! - `world`, `events`, `step`: the plain world, and what an event makes of it; `outcome`: what an arrival
 //!   comes to.
@@ -13,6 +13,7 @@ ghost use Rattle.std.specs.Prelude.{◌≡◌};
 ghost use Rattle.std.specs.Process.{exit_status};
 ghost use Rattle.sfs.specs.Status.{code_of};
 
+mod command;
 mod ending;
 mod events;
 mod outcome;
