@@ -21,7 +21,7 @@ type Data = Text<MAX_DATA_BYTES>;
 const MAX_FIXED_BYTES: usize = 112;
 
 /// A result, spelled (RFC 1094, section 2.2). Its names and path have at most 1,024 bytes and its data at
-/// most [`MAX_DATA_BYTES`], and a fault is a status other than OK.
+/// most [`MAX_DATA_BYTES`], and a fault is a status other than OK ([`is_fault`](crate::is_fault)).
 pub fn write_answer(alloc: Global, answer: &Answer) -> Result<Vec<u8>, NoMemory>
     requires { IsFitAnswer answer.now }
     ensures { IfOk result (λ bytes. bytes.items ≡ answer_spelling answer.now) }

@@ -39,3 +39,4 @@ pub use sattr::Sattr;
 pub use sfs_base::{Bytes, NoMemory};
 pub use sfs_xdr::ArgFault;
 pub use stamp::Stamp;
+pub use status::is_fault;

@@ -1,5 +1,5 @@
 -- A call that was written is heard again.
-use Rattle.std.proofs.Common.{◌≡◌, ℕ, zero, suc, ◌+◌, ◌*◌, ◌^◌, ◌<◌, ◌≤◌, Bool, true, false, cond, eqb, ◌&&◌, List, [], ◌∷◌, ◌++◌, length, Option, Some, None, Result, Ok, Err, IfOk, lit<, refl, sym, ap, subst, ◌∙◌, arith}
+use Rattle.std.proofs.Common.{◌≡◌, ℕ, zero, suc, ◌+◌, ◌*◌, ◌^◌, ◌<◌, ◌≤◌, Bool, true, false, cond, eqb, ◌&&◌, List, [], ◌∷◌, ◌++◌, length, Option, Some, None, Result, Ok, Err, IfOk, lit<, lit≤, refl, sym, ap, subst, ◌∙◌, arith}
 use Rattle.std.specs.Prelude.{replicate}
 use Rattle.std.proofs.lemmas.Bool.{eqb-true}
 use Rattle.std.proofs.lemmas.List.{length-append, append-nil}
@@ -12,19 +12,20 @@ use Rattle.sfs_xdr.specs.CodecLemmas.{behind, text_written}
 use Rattle.rpc_msg.specs.declared.cred.Cred.{Cred}
 use Rattle.rpc_msg.specs.declared.head.Head.{Head}
 use Rattle.rpc_msg.specs.declared.heard.Heard as heard
+use Rattle.rpc_msg.specs.declared.heard.Heard.TheVariants as variant
 use Rattle.rpc_msg.specs.declared.program.Program.{Program}
 use Rattle.rpc_msg.specs.declared.rpc_call.RpcCall.{RpcCall}
-use Rattle.rpc_msg.specs.Messages.{head_words, head_for, IsAuth, unix_words, nobody, is_nobody, cred_words, nfs, mount, program_of, MayCall, call_spelling}
+use Rattle.rpc_msg.specs.Messages.{head_words, head_for, IsAuth, unix_words, nobody, is_nobody, cred_words, nfs, mount, program_of, MayCall, IsUnixBody, call_spelling}
 use Rattle.rpc_msg.specs.MessageLemmas.{head_written, unix_written}
-use Rattle.rpc_msg.specs.Heard.{Outcome, IsGrammar, HeardVerifier, HeardCredential, HeardProgram, AsTheyAre, Heard, called, there, verifier, null, unix, credential, call, begun}
-use Rattle.rpc_msg.specs.Hearing.{as_they_are, heard_of, outcome}
+use Rattle.rpc_msg.specs.Heard.{Outcome, Call, Refuse, Silent, IsGrammar, HeardArguments, HeardVerifier, HeardCaller, HeardCredential, HeardCall, HeardProgram, AsTheyAre, Heard, called, garbage, unavailable, mismatch, no_procedure, there, verifier, rejected, bad, null, unix, credential, no_call, other_rpc, call, short, begun}
+use Rattle.rpc_msg.specs.Hearing.{as_they_are, heard_of, outcome, MayBeCalled}
 use Rattle.rpc_msg.specs.Laws.{IsTypedCall}
 use Rattle.rpc_msg.specs.Laws as laws
 use Rattle.rpc_msg.proofs.HeardLemmas.{told_heard, one_heard}
 
 pub as_they_are_grammar : IsGrammar AsTheyAre as_they_are
 as_they_are_grammar = record {
-  found = λ program procedure a bytes e. cc;
+  found = λ program procedure a bytes fits e. cc;
   none = λ program procedure bytes e. absurd cc;
   one = λ program procedure a b bytes first second. first ∙ sym second;
 }
@@ -144,3 +145,60 @@ pub heard_if_ok : (r : Result heard.Heard NoMemory) (bytes : List ℕ) → IsByt
 heard_if_ok (Ok h) bytes fits e =
     subst (λ (o : Outcome (List ℕ)). Heard AsTheyAre bytes o) (sym e) (told_heard AsTheyAre as_they_are as_they_are_grammar bytes fits)
 heard_if_ok (Err d) bytes fits e = tt
+
+-- ---- what is heard as a call may be written again
+
+abbrev CallMay : Outcome (List ℕ) → Type 0
+CallMay (Call c) = MayCall (program_of c.program) (record { xid = c.xid; program = c.program; procedure = c.procedure; cred = c.cred; args = c.arguments })
+CallMay (Refuse reply) = Unit {0}
+CallMay Silent = Unit {0}
+
+-- the groups of a body are few
+unix_few : (cred : Cred) (item : List ℕ) → IsUnixBody cred item → length cred.gids ≤ 16
+unix_few cred item is = is.2.second.second.second.second.0
+
+may_arguments : (h : Head) (cred : Cred) (bytes : List ℕ) (o : Outcome (List ℕ)) → length cred.gids ≤ 16 → (p : Program) → program_of h.program ≡ Some p
+    → h.procedure ≤ p.last_procedure → HeardArguments AsTheyAre h cred bytes o → CallMay o
+may_arguments h cred bytes _ few p e below (called a begins) =
+    subst (λ (o : Option Program). MayCall o (record { xid = h.xid; program = h.program; procedure = h.procedure; cred = cred; args = a })) (sym e) (below, few)
+may_arguments h cred bytes _ few p e below (garbage never) = tt
+
+may_program : (h : Head) (cred : Cred) (bytes : List ℕ) (o : Outcome (List ℕ)) → length cred.gids ≤ 16 → HeardProgram AsTheyAre h cred bytes o → CallMay o
+may_program h cred bytes _ few (unavailable e) = tt
+may_program h cred bytes _ few (mismatch p e other) = tt
+may_program h cred bytes _ few (no_procedure p e same above) = tt
+may_program h cred bytes _ few (there p e same below o is) = may_arguments h cred bytes o few p e below is
+
+may_verifier : (h : Head) (cred : Cred) (bytes : List ℕ) (o : Outcome (List ℕ)) → length cred.gids ≤ 16 → HeardVerifier AsTheyAre h cred bytes o → CallMay o
+may_verifier h cred bytes _ few (HeardVerifier.cut c) = tt
+may_verifier h cred bytes _ few (HeardVerifier.too_long long) = tt
+may_verifier h cred bytes _ few (verifier flavor body item rest spells spelled o is) = may_program h cred rest o few is
+
+may_caller : (h : Head) (flavor : ℕ) (body bytes : List ℕ) (o : Outcome (List ℕ)) → HeardCaller AsTheyAre h flavor body bytes o → CallMay o
+may_caller h flavor body bytes _ (rejected not_zero not_one) = tt
+may_caller h flavor body bytes _ (bad one never) = tt
+may_caller h flavor body bytes _ (null flavor_is_zero o is) = may_verifier h nobody bytes o (lit≤ tt) is
+may_caller h flavor body bytes _ (unix one cred item rest spells spelled o is) = may_verifier h cred bytes o (unix_few cred item spells) is
+
+may_credential : (h : Head) (bytes : List ℕ) (o : Outcome (List ℕ)) → HeardCredential AsTheyAre h bytes o → CallMay o
+may_credential h bytes _ (HeardCredential.cut c) = tt
+may_credential h bytes _ (HeardCredential.too_long long) = tt
+may_credential h bytes _ (credential flavor body item rest spells spelled o is) = may_caller h flavor body rest o is
+
+may_call : (h : Head) (bytes : List ℕ) (o : Outcome (List ℕ)) → HeardCall AsTheyAre h bytes o → CallMay o
+may_call h bytes _ (no_call other) = tt
+may_call h bytes _ (other_rpc kind other) = tt
+may_call h bytes _ (call kind version o is) = may_credential h bytes o is
+
+may_heard : (bytes : List ℕ) (o : Outcome (List ℕ)) → Heard AsTheyAre bytes o → CallMay o
+may_heard bytes _ (short few) = tt
+may_heard bytes _ (begun h item rest spells spelled o is) = may_call h rest o is
+
+may_outcome : (h : heard.Heard) → CallMay (outcome h) → MayBeCalled h
+may_outcome (variant.Call c) is = is
+may_outcome (variant.Refuse reply) is = tt
+may_outcome variant.Silent is = tt
+
+pub may_if_ok : (r : Result heard.Heard NoMemory) (bytes : List ℕ) → IfOk r (λ h. Heard AsTheyAre bytes (outcome h)) → IfOk r MayBeCalled
+may_if_ok (Ok h) bytes is = may_outcome h (may_heard bytes (outcome h) is)
+may_if_ok (Err d) bytes is = tt

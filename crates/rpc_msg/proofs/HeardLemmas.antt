@@ -108,24 +108,24 @@ is_cut bytes e fits failed other = (
 
 -- ---- the cases, from the last to the first: the function gives one that fits
 
-told_arguments : {A : Type 0} (Begins : Grammar A) (read : ArgumentReader A) → IsGrammar Begins read → (head : Head) (cred : Cred) (bytes : List ℕ)
+told_arguments : {A : Type 0} (Begins : Grammar A) (read : ArgumentReader A) → IsGrammar Begins read → (head : Head) (cred : Cred) (bytes : List ℕ) → IsBytes bytes
     → HeardArguments Begins head cred bytes (hear_arguments head cred (read head.program head.procedure bytes))
-told_arguments Begins read is head cred bytes =
+told_arguments Begins read is head cred bytes fits =
     elim (read head.program head.procedure bytes) as (λ o. read head.program head.procedure bytes ≡ o → HeardArguments Begins head cred bytes (hear_arguments head cred o)) [
-      | Some a ↦ λ e. called a (is.found head.program head.procedure a bytes e)
+      | Some a ↦ λ e. called a (is.found head.program head.procedure a bytes fits e)
       | None ↦ λ e. garbage (is.none head.program head.procedure bytes e)
     ] refl
 
-told_program : {A : Type 0} (Begins : Grammar A) (read : ArgumentReader A) → IsGrammar Begins read → (head : Head) (cred : Cred) (bytes : List ℕ) (o : Option Program)
+told_program : {A : Type 0} (Begins : Grammar A) (read : ArgumentReader A) → IsGrammar Begins read → (head : Head) (cred : Cred) (bytes : List ℕ) → IsBytes bytes → (o : Option Program)
     → program_of head.program ≡ o → HeardProgram Begins head cred bytes (hear_program read head cred bytes o)
-told_program Begins read is head cred bytes None e = unavailable e
-told_program {A} Begins read is head cred bytes (Some p) e =
+told_program Begins read is head cred bytes fits None e = unavailable e
+told_program {A} Begins read is head cred bytes fits (Some p) e =
     elim (eqb head.version p.version) as (λ b. eqb head.version p.version ≡ b
     → HeardProgram Begins head cred bytes (cond b (cond (leb head.procedure p.last_procedure) (hear_arguments head cred (read head.program head.procedure bytes)) (Refuse (procedure_unavailable head.xid))) (Refuse (program_mismatch p.version head.xid)))) [
       | true ↦ λ same.
           elim (leb head.procedure p.last_procedure) as (λ b. leb head.procedure p.last_procedure ≡ b
           → HeardProgram Begins head cred bytes (cond b (hear_arguments head cred (read head.program head.procedure bytes)) (Refuse (procedure_unavailable head.xid)))) [
-            | true ↦ λ below. there p e (eqb-true head.version p.version same) (leb-true head.procedure p.last_procedure below) _ (told_arguments Begins read is head cred bytes)
+            | true ↦ λ below. there p e (eqb-true head.version p.version same) (leb-true head.procedure p.last_procedure below) _ (told_arguments Begins read is head cred bytes fits)
             | false ↦ λ above. no_procedure p e (eqb-true head.version p.version same) (leb-false head.procedure p.last_procedure above)
           ] refl
       | false ↦ λ other. mismatch p e (eqb-false head.version p.version other)
@@ -135,7 +135,8 @@ told_verifier : {A : Type 0} (Begins : Grammar A) (read : ArgumentReader A) → 
     → (r : Result ((ℕ × List ℕ) × List ℕ) XdrFault) → auth_of bytes ≡ r → HeardVerifier Begins h cred bytes (hear_verifier read h cred r)
 told_verifier Begins read is h cred bytes fits (Ok v) e =
     let f = auth_exact.found bytes v.0 v.1 fits e in
-    verifier v.0.0 v.0.1 f.0 v.1 f.1 f.2 _ (told_program Begins read is h cred v.1 (program_of h.program) refl)
+    let rest : IsBytes v.1 = IsBytes-behind f.0 v.1 (λ k. let g = fits k in rw f.2 at g) in
+    verifier v.0.0 v.0.1 f.0 v.1 f.1 f.2 _ (told_program Begins read is h cred v.1 rest (program_of h.program) refl)
 told_verifier Begins read is h cred bytes fits (Err Short) e = HeardVerifier.cut (is_cut bytes Short fits e (λ same. absurd cc))
 told_verifier Begins read is h cred bytes fits (Err TooLong) e = HeardVerifier.too_long (too_long_found bytes fits e)
 told_verifier Begins read is h cred bytes fits (Err NotBool) e = HeardVerifier.cut (is_cut bytes NotBool fits e (λ same. absurd cc))
@@ -261,16 +262,16 @@ told_heard {A} Begins read is bytes fits =
 
 -- ---- the cases, from the last to the first: no other thing fits
 
-one_arguments : {A : Type 0} (Begins : Grammar A) (read : ArgumentReader A) → IsGrammar Begins read → (h : Head) (cred : Cred) (bytes : List ℕ) (o : Outcome A)
+one_arguments : {A : Type 0} (Begins : Grammar A) (read : ArgumentReader A) → IsGrammar Begins read → (h : Head) (cred : Cred) (bytes : List ℕ) → IsBytes bytes → (o : Outcome A)
     → HeardArguments Begins h cred bytes o → o ≡ hear_arguments h cred (read h.program h.procedure bytes)
-one_arguments Begins read is h cred bytes o (called a begins) =
+one_arguments Begins read is h cred bytes fits o (called a begins) =
     elim (read h.program h.procedure bytes) as (λ r. read h.program h.procedure bytes ≡ r → hear_arguments h cred (Some a) ≡ hear_arguments h cred r) [
-      | Some b ↦ λ e. ap (λ x. hear_arguments h cred (Some x)) (is.one h.program h.procedure a b bytes begins (is.found h.program h.procedure b bytes e))
+      | Some b ↦ λ e. ap (λ x. hear_arguments h cred (Some x)) (is.one h.program h.procedure a b bytes begins (is.found h.program h.procedure b bytes fits e))
       | None ↦ λ e. absurd (is.none h.program h.procedure bytes e a begins)
     ] refl
-one_arguments Begins read is h cred bytes o (garbage never) =
+one_arguments Begins read is h cred bytes fits o (garbage never) =
     elim (read h.program h.procedure bytes) as (λ r. read h.program h.procedure bytes ≡ r → Refuse (garbage_arguments h.xid) ≡ hear_arguments h cred r) [
-      | Some b ↦ λ e. absurd (never b (is.found h.program h.procedure b bytes e))
+      | Some b ↦ λ e. absurd (never b (is.found h.program h.procedure b bytes fits e))
       | None ↦ λ e. refl
     ] refl
 
@@ -281,16 +282,16 @@ pass b x y e = ap (λ c. cond c x y) (sym e)
 fail : {X : Type 0} (b : Bool) (x y : X) → b ≡ false → y ≡ cond b x y
 fail b x y e = ap (λ c. cond c x y) (sym e)
 
-one_program : {A : Type 0} (Begins : Grammar A) (read : ArgumentReader A) → IsGrammar Begins read → (h : Head) (cred : Cred) (bytes : List ℕ) (o : Outcome A)
+one_program : {A : Type 0} (Begins : Grammar A) (read : ArgumentReader A) → IsGrammar Begins read → (h : Head) (cred : Cred) (bytes : List ℕ) → IsBytes bytes → (o : Outcome A)
     → HeardProgram Begins h cred bytes o → o ≡ hear_program read h cred bytes (program_of h.program)
-one_program Begins read is h cred bytes o (unavailable e) = ap (hear_program read h cred bytes) (sym e)
-one_program Begins read is h cred bytes o (mismatch p e other) =
+one_program Begins read is h cred bytes fits o (unavailable e) = ap (hear_program read h cred bytes) (sym e)
+one_program Begins read is h cred bytes fits o (mismatch p e other) =
     fail (eqb h.version p.version) _ _ (ne_eqb h.version p.version other) ∙ ap (hear_program read h cred bytes) (sym e)
-one_program Begins read is h cred bytes o (no_procedure p e same above) =
+one_program Begins read is h cred bytes fits o (no_procedure p e same above) =
     fail (leb h.procedure p.last_procedure) _ _ (lt-leb h.procedure p.last_procedure above) ∙ pass (eqb h.version p.version) _ _ (eq-eqb h.version p.version same)
     ∙ ap (hear_program read h cred bytes) (sym e)
-one_program Begins read is h cred bytes _ (there p e same below o heard) =
-    one_arguments Begins read is h cred bytes o heard ∙ pass (leb h.procedure p.last_procedure) _ _ (le-leb h.procedure p.last_procedure below)
+one_program Begins read is h cred bytes fits _ (there p e same below o heard) =
+    one_arguments Begins read is h cred bytes fits o heard ∙ pass (leb h.procedure p.last_procedure) _ _ (le-leb h.procedure p.last_procedure below)
     ∙ pass (eqb h.version p.version) _ _ (eq-eqb h.version p.version same) ∙ ap (hear_program read h cred bytes) (sym e)
 
 -- nothing stands there whole
@@ -313,7 +314,8 @@ one_verifier Begins read is h cred bytes fits _ (HeardVerifier.cut c) =
     let f = cut_auth bytes fits c in silent h 3 f.0 f.2 ∙ ap (hear_verifier read h cred) (sym f.1)
 one_verifier Begins read is h cred bytes fits _ (HeardVerifier.too_long long) = ap (hear_verifier read h cred) (sym (too_long_again bytes long))
 one_verifier Begins read is h cred bytes fits _ (verifier flavor body item rest spells spelled o heard) =
-    one_program Begins read is h cred rest o heard
+    let back : IsBytes rest = IsBytes-behind item rest (λ k. let g = fits k in rw spelled at g) in
+    one_program Begins read is h cred rest back o heard
     ∙ ap (hear_verifier read h cred) (sym (ap auth_of spelled ∙ auth_exact.again (flavor, body) item rest spells))
 
 one_caller : {A : Type 0} (Begins : Grammar A) (read : ArgumentReader A) → IsGrammar Begins read → (h : Head) (flavor : ℕ) (body bytes : List ℕ) → IsBytes body → IsBytes bytes → (o : Outcome A)

@@ -1,5 +1,6 @@
 -- What some bytes are heard as: the ten cases, of which the first that fits decides.
 use Rattle.std.specs.Prelude.{◌≡◌, ◌≢◌, ◌<◌, ◌≤◌, ℕ, List, ◌++◌, length, Option, Some, None}
+use Rattle.sfs_base.specs.Reading.{IsBytes}
 use Rattle.rpc_msg.specs.declared.cred.Cred.{Cred}
 use Rattle.rpc_msg.specs.declared.head.Head.{Head}
 use Rattle.rpc_msg.specs.declared.program.Program.{Program}
@@ -23,9 +24,9 @@ pub data Outcome (A : Type 0) : Type 0 where
 abbrev pub Grammar : Type 0 → Type 1
 Grammar A = (program procedure : ℕ) → A → List ℕ → Type 0
 
--- bytes begin with the arguments that reading gives, and with no others
+-- bytes begin with the arguments that reading gives, and with no others; other numbers than bytes are not spoken of
 pub record IsGrammar {A : Type 0} (Begins : Grammar A) (read : ℕ → ℕ → List ℕ → Option A) : Type 0 where
-  pub found : (program procedure : ℕ) (a : A) (bytes : List ℕ) → read program procedure bytes ≡ Some a → Begins program procedure a bytes
+  pub found : (program procedure : ℕ) (a : A) (bytes : List ℕ) → IsBytes bytes → read program procedure bytes ≡ Some a → Begins program procedure a bytes
   pub none : (program procedure : ℕ) (bytes : List ℕ) → read program procedure bytes ≡ None → (a : A) → Begins program procedure a bytes → ⊥
   pub one : (program procedure : ℕ) (a b : A) (bytes : List ℕ) → Begins program procedure a bytes → Begins program procedure b bytes → a ≡ b
 

@@ -9,7 +9,7 @@ use Rattle.rpc_msg.specs.declared.head.Head.{Head}
 use Rattle.rpc_msg.specs.declared.heard.Heard.{Heard}
 use Rattle.rpc_msg.specs.declared.heard.Heard.TheVariants as heard
 use Rattle.rpc_msg.specs.declared.program.Program.{Program}
-use Rattle.rpc_msg.specs.Messages.{head_of, auth_of, unix_of, nobody, program_of, rpc_mismatch, auth_error, program_unavailable, program_mismatch, procedure_unavailable, garbage_arguments}
+use Rattle.rpc_msg.specs.Messages.{head_of, auth_of, unix_of, nobody, program_of, MayCall, rpc_mismatch, auth_error, program_unavailable, program_mismatch, procedure_unavailable, garbage_arguments}
 use Rattle.rpc_msg.specs.Heard.{Outcome, Call, Refuse, Silent}
 
 -- reads the arguments of a procedure: none where the bytes do not begin with any
@@ -70,6 +70,12 @@ abbrev pub outcome : Heard → Outcome (List ℕ)
 outcome (heard.Call call) = Call (record { xid = call.xid; program = call.program; procedure = call.procedure; cred = call.cred; arguments = call.args })
 outcome (heard.Refuse reply) = Refuse reply
 outcome heard.Silent = Silent
+
+-- a call that is heard may be written: its program and its procedure are there, and its further groups are at most 16
+abbrev pub MayBeCalled : Heard → Type 0
+MayBeCalled (heard.Call call) = MayCall (program_of call.program) call
+MayBeCalled (heard.Refuse reply) = Unit {0}
+MayBeCalled heard.Silent = Unit {0}
 
 -- the number that stands for why a caller is not let in
 abbrev pub why_number : AuthWhy → ℕ

@@ -1,7 +1,7 @@
 ghost use Rattle.std.specs.Prelude.{◌≡◌, IfOk};
 ghost use Rattle.rpc_msg.specs.Messages.{auth_of, program_of};
 ghost use Rattle.rpc_msg.specs.Heard.{AsTheyAre, Heard as HeardAs};
-ghost use Rattle.rpc_msg.specs.Hearing.{heard_of, hear_call, hear_credential, hear_caller, hear_verifier, hear_program, hear_fault, why_number, as_they_are, outcome};
+ghost use Rattle.rpc_msg.specs.Hearing.{heard_of, hear_call, hear_credential, hear_caller, hear_verifier, hear_program, hear_fault, why_number, as_they_are, outcome, MayBeCalled};
 
 use crate::auth::{AUTH_NULL, AUTH_UNIX, Auth};
 use crate::auth_why::AuthWhy;
@@ -19,10 +19,12 @@ use sfs_xdr::{Codec, ItemFault, NoMemory, Reader, XdrFault};
 use std::alloc::Global;
 
 /// Reads a message that came: a call of a procedure that is there, with all bytes behind its verifier as
-/// arguments; a refusal, with its reply; or what is not answered (`docs/FORMATS.md`, "Calls").
+/// arguments; a refusal, with its reply; or what is not answered (`docs/FORMATS.md`, "Calls"). A call that is heard has
+/// at most [`MAX_GIDS`](crate::MAX_GIDS) further groups, and [`write_call`](crate::write_call) may write it again.
 pub fn read_call(alloc: Global, bytes: &[u8]) -> Result<Heard, NoMemory>
     ensures exact { IfOk result (λ h. outcome h ≡ heard_of as_they_are bytes.now) }
     ensures heard { IfOk result (λ h. HeardAs AsTheyAre bytes.now (outcome h)) }
+    ensures may { IfOk result MayBeCalled }
 {
     hear_message(alloc, bytes)
 }

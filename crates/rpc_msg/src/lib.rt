@@ -23,7 +23,7 @@ mod unix_body;
 
 pub use arguments::Arguments;
 pub use calling::write_call;
-pub use cred::{Cred, Gids, NOBODY};
+pub use cred::{Cred, Gids, MAX_GIDS, NOBODY};
 pub use heard::Heard;
 pub use hearing::read_call;
 pub use laws::{heard_is_one, written_call_is_heard};

@@ -52,7 +52,8 @@ where
     ghost written = { λ values typed fits. counted_written MAX (Prim.search rules) C.spells C.spelling C.typed C.fits C.written values typed fits.0 fits.1 };
 }
 
-/// Reads so many values one behind another. `Malformed` where the bytes that are left begin with fewer.
+/// Reads so many values one behind another. `Malformed` where the bytes that are left begin with fewer; after a refusal
+/// the reader stands somewhere within them.
 pub fn read_many<C: Codec>(
     alloc: Global,
     reader: &mut Reader,
@@ -71,7 +72,7 @@ where
     Ok(values)
 }
 
-/// Writes values one behind another.
+/// Writes values one behind another. On [`NoMemory`] a front of them, and a part of the next, may be written.
 pub fn write_many<C: Codec>(values: &[C::Value], writer: &mut Writer) -> Result<(), NoMemory>
     requires { AllByRecursion C.fits values.now }
     ensures { OnOk result (writer.new ≡ writer.old ++ flat_map C.spelling values.now) }

@@ -73,7 +73,7 @@ impl Codec for bool {
     ghost written = { λ b typed fits. refl };
 }
 
-/// Writes numbers one behind another.
+/// Writes numbers one behind another. On [`NoMemory`] a front of them may be written.
 pub fn write_words(writer: &mut Writer, numbers: &[u32]) -> Result<(), NoMemory>
     ensures { OnOk result (writer.new ≡ writer.old ++ words numbers.now) }
 {
