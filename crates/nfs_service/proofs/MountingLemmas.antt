@@ -1,13 +1,10 @@
 -- The handle that MNT answers names the root.
-use Rattle.std.proofs.Common.{◌≡◌, ℕ, Option, Some, None, cond, refl, sym, ap, ◌∙◌}
+use Rattle.std.proofs.Common.{◌≡◌, ℕ, Some, None, cond, sym, ap, ◌∙◌}
 use Rattle.std.specs.Prelude.{option_and_then}
-use Rattle.std.specs.FinMap as table
 use Rattle.std.specs.Str.{bytes_eq}
 use Rattle.fs_layout.specs.Words.{spelled}
 use Rattle.fs_layout.specs.Handles.{handle_words, handle}
 use Rattle.fs_rules.specs.declared.file.File.{File}
-use Rattle.fs_rules.specs.declared.plain_tree.PlainTree.{PlainTree}
-use Rattle.fs_rules.specs.Arguments.{file_of}
 use Rattle.mount_proto.proofs.RootLemmas.{root_is}
 use Rattle.nfs_service.specs.Mounting.{TheRootIsMounted, root}
 

@@ -1,2 +1,4 @@
 pub mod Reply
 pub mod Mounting
+pub mod Arguments
+pub mod ArgumentLemmas

@@ -1,5 +1,5 @@
 -- Mounting leads to the root.
-use Rattle.std.specs.Prelude.{◌≡◌, ℕ, List, [], ◌∷◌, ◌++◌, Some}
+use Rattle.std.specs.Prelude.{◌≡◌, ℕ, List, ◌++◌, Some}
 use Rattle.std.specs.FinMap as table
 use Rattle.sfs_xdr.specs.Items.{word, opaque}
 use Rattle.mount_proto.specs.Mount.{exported, mounted}

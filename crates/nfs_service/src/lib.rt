@@ -9,7 +9,9 @@
 mod laws;
 mod reply;
 mod request;
+mod service_arguments;
 
-pub use laws::the_root_is_mounted;
+pub use laws::{the_root_is_mounted, the_ten_cases_decide};
 pub use reply::reply_to;
 pub use request::Request;
+pub use service_arguments::ServiceArguments;
