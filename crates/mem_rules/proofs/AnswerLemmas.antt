@@ -30,7 +30,7 @@ least_taken kept limit = elim (cases_lt limit (length kept)) [
       ∙ take_all (length kept) kept (omega arith) ∙ sym (take_all limit kept few)
 ]
 
-pub when_ok : {X E : Type 0} (result : Result X E) → IsOk result → (a b : List Kept) → cond (is_ok result) a b ≡ a
+pub when_ok : {X E Y : Type 0} (result : Result X E) → IsOk result → (a b : Y) → cond (is_ok result) a b ≡ a
 when_ok (Ok x) ok a b = refl
 when_ok (Err e) ok a b = absurd cc
 

@@ -1,14 +1,17 @@
 -- Records that ascend: where one stands, and what is done there.
 use Rattle.std.proofs.Common.{◌≡◌, ◌<◌, ◌≤◌, ℕ, zero, suc, Bool, true, false, not, cond, List, [], ◌∷◌, map, filter, length, set, get_or, Option, Some, None, inl, inr, refl, sym, ap, subst, ◌∙◌, arith}
 use Rattle.std.specs.List.{AllByRecursion, insert, remove, slice_get}
-use Rattle.std.specs.List.Sorted.{IsPartitionedBy}
+use Rattle.std.specs.List.Sorted.{IsPartitionedBy, IsPartitionPoint}
+use Rattle.std.specs.Prelude.{Box, box_value}
+use Rattle.std.specs.declared.alloc.Global.{Global}
 use Rattle.std.proofs.lemmas.Bool.{cases_lt}
+use Rattle.std.proofs.lemmas.List.{length-map, get_or-map}
 use Rattle.std.proofs.lemmas.List.Elements.{All-from_recursion}
 use Rattle.mini_tx.specs.declared.tx_id.TxId.{TxId}
 use Rattle.mem_rules.specs.declared.kept.Kept.{Kept}
 use Rattle.mem_rules.specs.Good.{AreAscending}
 use Rattle.mem_rules.specs.Identifiers.{precedes, is_same}
-use Rattle.mem_rules.specs.Records.{IsPlaceOf}
+use Rattle.mem_rules.specs.Records.{IsPlaceOf, unboxed}
 use Rattle.mem_rules.specs.State.{kept_of, placed_in, with_decision, decided}
 use Rattle.lock_table.proofs.OrderLemmas.{trans, is_one, not_same, not_same_back, or_after}
 
@@ -168,3 +171,40 @@ forgotten_is id k (o ∷ kept) zero ascending place is same =
 forgotten_is id k (o ∷ kept) (suc at) ascending place is same =
     ap (λ b. cond (not b) (o ∷ filter (stays id) kept) (filter (stays id) kept)) (not_same o.id id (front o kept id at place))
     ∙ ap (λ (ks : List Kept). o ∷ ks) (forgotten_is id k kept at ascending.1 (tail o kept id at place) is same)
+
+-- ---- records in their boxes
+
+-- the test of a record in its box
+abbrev pub Before : TxId → Box Kept Global → Bool
+Before id b = precedes (box_value b).id id
+
+pub boxes_parted : (boxes : List (Box Kept Global)) (id : TxId) → AreAscending (unboxed boxes) → IsPartitionedBy (Before id) boxes
+boxes_parted boxes id ascending i j d low below h =
+    let len = length-map boxes box_value in
+    let at_j : get_or (unboxed boxes) j (box_value d) ≡ box_value (get_or boxes j d) = get_or-map box_value boxes j d (box_value d) (omega (arith, below)) in
+    let at_i : get_or (unboxed boxes) i (box_value d) ≡ box_value (get_or boxes i d) = get_or-map box_value boxes i d (box_value d) (omega (arith, low, below)) in
+    let told = parted (unboxed boxes) id ascending i j (box_value d) low (omega (arith, below, len)) (ap (λ (k : Kept). precedes k.id id) at_j ∙ h) in
+    ap (λ (k : Kept). precedes k.id id) (sym at_i) ∙ told
+
+pub place_unboxed : (id : TxId) (boxes : List (Box Kept Global)) (at : ℕ) → at ≤ length boxes
+    → IsPartitionPoint (λ (b : Box Kept Global). Before id b ≡ true) (λ (b : Box Kept Global). Before id b ≡ false) boxes at → IsPlaceOf (unboxed boxes) id at
+place_unboxed id [] at bound point = (λ j d low below. absurd (omega (arith, bound, below)), λ j d low below. absurd (omega (arith, below)))
+place_unboxed id (b ∷ boxes) at bound point =
+    let len = length-map (b ∷ boxes) box_value in (
+      λ j d low below.
+          ap (λ (k : Kept). precedes k.id id) (get_or-map box_value (b ∷ boxes) j b d (omega (arith, bound, below))) ∙ point.0 j b low below,
+      λ j d low below.
+          ap (λ (k : Kept). precedes k.id id) (get_or-map box_value (b ∷ boxes) j b d (omega (arith, below, len))) ∙ point.1 j b low (omega (arith, below, len)),
+    )
+
+pub insert_unboxed : (boxes : List (Box Kept Global)) (at : ℕ) (b : Box Kept Global) → unboxed (insert boxes at b) ≡ insert (unboxed boxes) at (box_value b)
+insert_unboxed [] zero b = refl
+insert_unboxed [] (suc at) b = refl
+insert_unboxed (o ∷ boxes) zero b = refl
+insert_unboxed (o ∷ boxes) (suc at) b = ap (λ (ks : List Kept). box_value o ∷ ks) (insert_unboxed boxes at b)
+
+pub remove_unboxed : (boxes : List (Box Kept Global)) (at : ℕ) → unboxed (remove boxes at) ≡ remove (unboxed boxes) at
+remove_unboxed [] zero = refl
+remove_unboxed [] (suc at) = refl
+remove_unboxed (o ∷ boxes) zero = refl
+remove_unboxed (o ∷ boxes) (suc at) = ap (λ (ks : List Kept). box_value o ∷ ks) (remove_unboxed boxes at)

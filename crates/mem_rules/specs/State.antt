@@ -3,6 +3,7 @@ use Rattle.std.specs.Prelude.{ℕ, Bool, not, List, [], ◌∷◌, filter, map, 
 use Rattle.mini_tx.specs.declared.cut_id.CutId.{CutId}
 use Rattle.mini_tx.specs.declared.entry.Entry.{Entry}
 use Rattle.mini_tx.specs.declared.entry.Entry.TheVariants as entry
+use Rattle.mini_tx.specs.declared.range.Range.{Range}
 use Rattle.mini_tx.specs.declared.tx_id.TxId.{TxId}
 use Rattle.mini_tx.specs.declared.vote.Vote.{Vote}
 use Rattle.mini_tx.specs.declared.write_at.WriteAt.{WriteAt}
@@ -58,6 +59,14 @@ placed_in k (other ∷ others) = if precedes other.id k.id then other ∷ placed
 abbrev pub writes_kept : Option Kept → List WriteAt
 writes_kept None = []
 writes_kept (Some k) = k.writes
+
+-- a record that has no more than its identifier and its vote yet
+abbrev pub begun_with : TxId → Vote → Kept
+begun_with id v = record { id = id; participants = []; vote = v; ranges = []; writes = []; decision = None }
+
+-- with what its entry has beside them
+abbrev pub filled_with : List ℕ → List Range → List WriteAt → Kept → Kept
+filled_with participants ranges writes k = record k { participants = participants; ranges = ranges; writes = writes }
 
 -- a decided record: its ranges are locked no longer, and its writes are made or never will be
 abbrev pub with_decision : Bool → Kept → Kept

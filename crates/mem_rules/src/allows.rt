@@ -5,7 +5,6 @@ ghost use Rattle.mem_rules.specs.State.{kept_of};
 
 use crate::fits::{are_below, are_covered, lie_inside, ranges_lie_inside};
 use crate::memory::Memory;
-use crate::records::record_of;
 use mini_tx::{Entry, Range, TxId, WriteAt};
 
 impl Memory {
@@ -46,7 +45,7 @@ impl Memory {
     fn keeps(&self, id: TxId, undecided: bool) -> bool
         ensures { IsTrue result ↔ IsKeptAs undecided (kept_of (state_of self.now).kept id) }
     {
-        match record_of(&self.kept, id) {
+        match self.kept.get(id) {
             Some(record) => record.is_undecided() == undecided,
             None => false,
         }
@@ -66,7 +65,7 @@ impl Memory {
             && self.are_there(participants)
             && are_in_place(self.image.len(), ranges, writes)
             && !self.are_locked(ranges)
-            && record_of(&self.kept, id).is_none()
+            && self.kept.get(id).is_none()
     }
 
     /// Whether the participants are of the cluster, with this memory node among them.

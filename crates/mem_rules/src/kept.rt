@@ -1,6 +1,6 @@
-ghost use Rattle.std.specs.Prelude.{◌≡◌};
+ghost use Rattle.std.specs.Prelude.{◌≡◌, box_value};
 ghost use Rattle.mem_rules.specs.Rules.{is_undecided};
-ghost use Rattle.mem_rules.specs.State.{with_decision};
+ghost use Rattle.mem_rules.specs.State.{begun_with, filled_with, with_decision};
 
 use mini_tx::{Numbers, Ranges, TxId, Vote, Writes};
 use std::alloc::Global;
@@ -20,6 +20,29 @@ pub struct Kept {
 }
 
 impl Kept {
+    /// The record of an identifier with this vote, which has nothing else yet.
+    pub(crate) fn begun(alloc: Global, id: TxId, vote: Vote) -> Kept
+        ensures { result ≡ begun_with id vote }
+    {
+        Kept {
+            id,
+            participants: Numbers::new(alloc),
+            vote,
+            ranges: Ranges::new(alloc),
+            writes: Writes::new(alloc),
+            decision: None,
+        }
+    }
+
+    /// Gives it what its entry has beside its identifier and its vote.
+    fn fill(&mut self, participants: Numbers, ranges: Ranges, writes: Writes)
+        ensures { self.new ≡ filled_with participants ranges writes self.old }
+    {
+        self.participants = participants;
+        self.ranges = ranges;
+        self.writes = writes;
+    }
+
     /// Whether it is not decided, so that its ranges are locked.
     pub(crate) fn is_undecided(&self) -> bool
         ensures { result ≡ is_undecided self.now }
@@ -36,4 +59,17 @@ impl Kept {
         self.ranges = Ranges::new(alloc);
         mem::replace(&mut self.writes, Writes::new(alloc))
     }
+}
+
+/// The record in this place, with what its entry has beside its identifier and its vote.
+pub(crate) fn filled(
+    mut record: Box<Kept>,
+    participants: Numbers,
+    ranges: Ranges,
+    writes: Writes,
+) -> Box<Kept>
+    ensures { box_value result ≡ filled_with participants ranges writes «record».value }
+{
+    record.fill(participants, ranges, writes);
+    record
 }

@@ -6,13 +6,14 @@ ghost use Rattle.std.proofs.Math.Bool.{Bool-set};
 ghost use Rattle.lock_table.specs.Table.{locks_in};
 ghost use Rattle.mem_rules.specs.Index.{IsIndexed};
 ghost use Rattle.mem_rules.specs.Good.{IsGood, AreAscending-prop, AreAllApart-prop};
+ghost use Rattle.mem_rules.specs.Records.{records_in};
 ghost use Rattle.mem_rules.specs.State.{state_with};
 
 use crate::floor::Floor;
 use crate::floors::{no_floors, raise, raised};
 use crate::image::Image;
-use crate::kept::Kept;
-use crate::records::{decide, forget, keep, ranges_of, record_of};
+use crate::kept::{Kept, filled};
+use crate::records::Records;
 use crate::room::Room;
 use crate::setup::Setup;
 use crate::standing::vote_at;
@@ -29,15 +30,15 @@ pub struct Memory {
     /// The floor of each coordinator, at its number.
     pub(crate) floors: Vec<Option<Floor>>,
     /// The kept records, in ascending order of their identifiers.
-    pub(crate) kept: Vec<Kept>,
+    pub(crate) kept: Records,
     /// The greatest cut that was held.
     pub(crate) cut: Option<CutId>,
     /// The ranges of the records that are undecided.
     pub(crate) locks: Locks,
     pub(crate) image: Image,
-    ghost good: { IsGood setup (state_with floors.items kept.items cut image) } by { Prim.hlevel (props, AllByRecursion-prop, AreAscending-prop, AreAllApart-prop) },
+    ghost good: { IsGood setup (state_with floors.items (records_in kept) cut image) } by { Prim.hlevel (props, AllByRecursion-prop, AreAscending-prop, AreAllApart-prop) },
     ghost valid: { IsSetup setup },
-    ghost indexed: { IsIndexed kept.items (locks_in locks) } by { Prim.hlevel (props, Bool-set) },
+    ghost indexed: { IsIndexed (records_in kept) (locks_in locks) } by { Prim.hlevel (props, Bool-set) },
 }
 
 impl Memory {
@@ -58,7 +59,7 @@ impl Memory {
             alloc,
             setup,
             floors: no_floors(alloc, setup.geometry.nodes)?,
-            kept: Vec::new(alloc),
+            kept: Records::new(alloc),
             cut: None,
             locks: Locks::new(alloc),
             image: Image::new(image),
@@ -72,10 +73,16 @@ impl Memory {
         ensures setup { setup_in self.new ≡ setup_in self.old }
     {
         match entry {
-            Entry::Prepared { vote, ranges, .. } => {
-                self.kept.reserve(1)?;
+            Entry::Prepared {
+                id,
+                vote,
+                ranges,
+                ..
+            } => {
+                self.kept.reserve()?;
                 self.locks.reserve(ranges.as_slice().len())?;
-                Ok(Room::Record(copied(vote)?))
+                let record = Kept::begun(self.alloc, *id, copied(vote)?);
+                Ok(Room::Record(Box::new(self.alloc, record)?))
             }
             _ => Ok(Room::Nothing),
         }
@@ -100,19 +107,10 @@ impl Memory {
                 ranges,
                 writes,
             } => {
-                raise(&mut self.floors, id, room.into_vote());
+                raise(&mut self.floors, id, vote);
                 self.locks.lock(id, ranges.as_slice());
-                keep(
-                    &mut self.kept,
-                    Kept {
-                        id,
-                        participants,
-                        vote,
-                        ranges,
-                        writes,
-                        decision: None,
-                    },
-                );
+                let record = filled(room.into_record(), participants, ranges, writes);
+                self.kept.keep(record);
             }
             Entry::Refused { id, vote } | Entry::Floor { id, vote } => raise(
                 &mut self.floors,
@@ -120,13 +118,13 @@ impl Memory {
                 vote,
             ),
             Entry::Decided { id, commit } => {
-                self.locks.free(id, ranges_of(&self.kept, id));
-                let writes = decide(self.alloc, &mut self.kept, id, commit);
+                self.locks.free(id, self.kept.ranges_of(id));
+                let writes = self.kept.decide(self.alloc, id, commit);
                 if commit {
                     self.image.write_all(writes.as_slice());
                 }
             }
-            Entry::Forgotten { id } => forget(&mut self.kept, id),
+            Entry::Forgotten { id } => self.kept.forget(id),
             Entry::Cut { cut } => self.cut = raised(self.cut, cut),
         }
     }
@@ -136,7 +134,7 @@ impl Memory {
         requires { id.coord < (setup_in self.now).geometry.nodes }
         ensures { option_copied result ≡ vote_of (state_of self.now) id }
     {
-        if let Some(record) = record_of(&self.kept, id) {
+        if let Some(record) = self.kept.get(id) {
             return Some(&record.vote);
         }
         vote_at(self.floors[id.coord as usize].as_ref(), id)

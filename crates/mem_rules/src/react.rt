@@ -8,7 +8,6 @@ ghost use Rattle.mem_rules.specs.State.{kept_of};
 use crate::items::{difference, ranges};
 use crate::memory::Memory;
 use crate::reaction::Reaction;
-use crate::records::{first, named, record_of};
 use crate::rule::Rule;
 use crate::standing::{Standing, is_above, vote_at};
 use crate::votes::{copied, entry_of, is_logged};
@@ -66,7 +65,7 @@ impl Memory {
         requires inside { AreInside (size_of (setup_in self.now)) items.now }
         ensures { IfOk result (λ rule. rule ≡ rule_for (node_of self.now) id items.now) }
     {
-        if let Some(record) = record_of(&self.kept, id) {
+        if let Some(record) = self.kept.get(id) {
             return Ok(Rule::RecordAgain(copied(&record.vote)?));
         }
         match Standing::of(self.floors[id.coord as usize].as_ref(), id)? {
@@ -107,7 +106,7 @@ impl Memory {
         requires { id.coord < (setup_in self.now).geometry.nodes }
         ensures { IsReaction result (on_decide (node_of self.now) id commit (kept_of (state_of self.now).kept id)) }
     {
-        match record_of(&self.kept, id) {
+        match self.kept.get(id) {
             Some(record) => {
                 if record.is_undecided() {
                     Reaction::append(Entry::Decided { id, commit }, Message::Done { id })
@@ -150,7 +149,7 @@ impl Memory {
     fn on_forget(&self, id: TxId) -> Reaction
         ensures { IsReaction result (on_forget (node_of self.now) id (kept_of (state_of self.now).kept id)) }
     {
-        match record_of(&self.kept, id) {
+        match self.kept.get(id) {
             Some(record) => {
                 if record.is_undecided() {
                     Reaction::none()
@@ -170,7 +169,7 @@ impl Memory {
         requires { id.coord < (setup_in self.now).geometry.nodes }
         ensures { IsReaction result (on_ask (node_of self.now) id (kept_of (state_of self.now).kept id)) }
     {
-        if record_of(&self.kept, id).is_some() {
+        if self.kept.get(id).is_some() {
             Reaction::answer(Message::Answer { id, ok: true })
         } else if self.is_above(id) {
             self.forces(id, Message::Answer { id, ok: false })
@@ -195,7 +194,7 @@ impl Memory {
     fn on_list(&self) -> Result<Reaction, NoMemory>
         ensures { IfOk result (λ reaction. IsReaction reaction (on_list (node_of self.now))) }
     {
-        let ids = named(self.alloc, first(&self.kept, MAX_LISTED))?;
+        let ids = self.kept.named(self.alloc, MAX_LISTED)?;
         Ok(Reaction::answer(Message::Kept { ids, cut: None }))
     }
 }

@@ -2,25 +2,25 @@ ghost use Rattle.std.specs.Prelude.{◌≡◌};
 ghost use Rattle.mem_rules.specs.Memory.{IsRecordRoom};
 ghost use Rattle.mem_rules.specs.declared.room.Room.TheVariants.{Record};
 
-use mini_tx::Vote;
+use crate::kept::Kept;
 
 /// The memory that an entry will need once it is safe in the log.
 #[derive(Drop)]
 pub enum Room {
     /// None.
     Nothing,
-    /// There is room for one more record, and this is a copy of its vote, for the floor.
-    Record(Vote),
+    /// There is room for one more record, and this is its place, with its identifier and a copy of its vote.
+    Record(Box<Kept>),
 }
 
 impl Room {
-    /// The copy of the vote.
-    pub(crate) fn into_vote(self) -> Vote
+    /// The place of the record.
+    pub(crate) fn into_record(self) -> Box<Kept>
         requires { IsRecordRoom self }
         ensures { self ≡ Record result }
     {
         match self {
-            Room::Record(vote) => vote,
+            Room::Record(record) => record,
             Room::Nothing => unreachable!(),
         }
     }
