@@ -11,5 +11,5 @@ mod FlatLemmas
 mod SoundLemmas
 mod LawLemmas
 mod OutcomeLemmas
-mod ImageLemmas
-mod MessageLemmas
+pub mod ImageLemmas
+pub mod MessageLemmas
