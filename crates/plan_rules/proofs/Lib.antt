@@ -1,4 +1,4 @@
 pub mod SearchLemmas
-mod OrderLemmas
-mod MatchedLemmas
+pub mod OrderLemmas
+pub mod MatchedLemmas
 mod ExampleLemmas

@@ -25,9 +25,13 @@ use Rattle.node_cache.specs.declared.entry.Entry.{Entry}
 use Rattle.node_cache.specs.declared.held.Held.{Held}
 use Rattle.node_cache.specs.Cached.{held_of}
 use Rattle.node_cache.specs.Truth.{IsOwn, LiesAt}
-use Rattle.plan_rules.specs.Steps.{Look, Record, Chaining, Group, BlockBits, InodeBits, part_of, is_held}
+use Rattle.plan_rules.specs.declared.look.Look.{Look}
+use Rattle.plan_rules.specs.declared.look.Look.TheVariants.{Record, Chaining, Group, BlockBits, InodeBits}
+use Rattle.plan_rules.specs.Steps.{part_of, is_held}
 use Rattle.plan_rules.specs.Told.{memory_at, inode_at, is_number, map_of, block_bits, inode_bits}
-use Rattle.plan_rules.specs.Compared.{Subject, File, Maps, subject_of, is_same, firsts, is_at_blocks, is_at_inodes, stamp_items, block_items, inode_items, items_of, compares}
+use Rattle.plan_rules.specs.declared.look.Subject.{Subject}
+use Rattle.plan_rules.specs.declared.look.Subject.TheVariants.{File, Maps}
+use Rattle.plan_rules.specs.Compared.{subject_of, is_same, firsts, is_at_blocks, is_at_inodes, stamp_items, block_items, inode_items, items_of, compares}
 use Rattle.plan_rules.specs.Works.{IsWorkSet}
 use Rattle.plan_rules.proofs.SearchLemmas.{found_there}
 use Rattle.plan_rules.specs.Matched.{AreTrue, IsOwnFile, IsOwnLook, MatchedLooksAreOwn}
@@ -62,11 +66,15 @@ among : (P : Subject → Type 0) (s : Subject) (before : List Subject) → AllBy
 among P s [] all seen = absurd cc
 among P s (x ∷ before) all seen = among_by P s x (list_any (is_same s) before) (is_same s x) refl all.0 (among P s before all.1) seen
 
+with_last : (P : Subject → Type 0) (xs : List Subject) (s : Subject) → AllByRecursion P xs → P s → AllByRecursion P (xs ++ s ∷ [])
+with_last P [] s all is = (is, tt)
+with_last P (x ∷ xs) s all is = (all.0, with_last P xs s all.1 is)
+
 next_by : (P : Subject → Type 0) (before : List Subject) (s : Subject) (subjects : List Subject) (b : Bool) → list_any (is_same s) before ≡ b
     → AllByRecursion P before → ((others : List Subject) → AllByRecursion P others → AllByRecursion P (firsts others subjects) → AllByRecursion P subjects)
-    → AllByRecursion P (cond b (firsts before subjects) (s ∷ firsts (s ∷ before) subjects)) → AllByRecursion P (s ∷ subjects)
+    → AllByRecursion P (cond b (firsts before subjects) (s ∷ firsts (before ++ s ∷ []) subjects)) → AllByRecursion P (s ∷ subjects)
 next_by P before s subjects true seen all rest first = (among P s before all seen, rest before all first)
-next_by P before s subjects false seen all rest first = (first.0, rest (s ∷ before) (first.0, all) first.1)
+next_by P before s subjects false seen all rest first = (first.0, rest (before ++ s ∷ []) (with_last P before s all first.0) first.1)
 
 -- what holds of each that comes first holds of all
 of_all : (P : Subject → Type 0) (subjects before : List Subject) → AllByRecursion P before → AllByRecursion P (firsts before subjects) → AllByRecursion P subjects

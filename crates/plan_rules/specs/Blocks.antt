@@ -6,7 +6,8 @@ use Rattle.fs_rules.specs.File.{chains_up_to}
 use Rattle.fs_rules.specs.Lists.{below}
 use Rattle.fs_image.specs.Owners.{Part, Chain, Block}
 use Rattle.node_cache.specs.declared.held.Held.{Held}
-use Rattle.plan_rules.specs.Steps.{Step, Looks, Chaining}
+use Rattle.plan_rules.specs.declared.look.Look.TheVariants.{Chaining}
+use Rattle.plan_rules.specs.Steps.{Step, Looks}
 use Rattle.plan_rules.specs.Told.{place_of, chains_of}
 
 -- all chaining blocks of a file

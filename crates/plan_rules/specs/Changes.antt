@@ -9,7 +9,8 @@ use Rattle.fs_rules.specs.Lists.{below}
 use Rattle.fs_rules.specs.Statuses.{fails_where, fbig, nospc}
 use Rattle.fs_image.specs.Owners.{Block}
 use Rattle.node_cache.specs.declared.held.Held.{Held}
-use Rattle.plan_rules.specs.Steps.{Step, Looks, Checks, BlockBits, InodeBits}
+use Rattle.plan_rules.specs.declared.look.Look.TheVariants.{BlockBits, InodeBits}
+use Rattle.plan_rules.specs.Steps.{Step, Looks, Checks}
 use Rattle.plan_rules.specs.Told.{memory_at, at_record, place_of, chains_of, dir_blocks, is_full}
 use Rattle.plan_rules.specs.Blocks.{GivenUp, past, chain_steps, is_given_up_on}
 use Rattle.plan_rules.specs.Room.{Need, number_steps, needs_steps}

@@ -6,14 +6,13 @@ use Rattle.fs_image.specs.Stamps.{stamp}
 use Rattle.mini_tx.specs.declared.item.Item.{Item}
 use Rattle.mini_tx.specs.declared.item.Item.TheVariants as item
 use Rattle.node_cache.specs.declared.held.Held.{Held}
-use Rattle.plan_rules.specs.Steps.{Look, Record, Chaining, Group, BlockBits, InodeBits}
+use Rattle.plan_rules.specs.declared.look.Look.{Look}
+use Rattle.plan_rules.specs.declared.look.Look.TheVariants.{Record, Chaining, Group, BlockBits, InodeBits}
+use Rattle.plan_rules.specs.declared.look.Subject.{Subject}
+use Rattle.plan_rules.specs.declared.look.Subject.TheVariants.{File, Maps}
 use Rattle.plan_rules.specs.Told.{memory_at, inode_at, at_record, block_bits, inode_bits}
 
--- what a look is at: a file, or the maps of a memory node
-pub data Subject : Type 0 where
-  File : ℕ → Subject
-  Maps : ℕ → Subject
-
+-- what a look is at
 abbrev pub subject_of : Look → Subject
 subject_of (Record n) = File n
 subject_of (Chaining n k) = File n
@@ -30,7 +29,7 @@ is_same (Maps m) (Maps k) = m == k
 -- each but those before it once, in the order in which they come first
 unfoldable pub firsts : List Subject → List Subject → List Subject
 firsts before [] = []
-firsts before (s ∷ subjects) = if list_any (is_same s) before then firsts before subjects else s ∷ firsts (s ∷ before) subjects
+firsts before (s ∷ subjects) = if list_any (is_same s) before then firsts before subjects else s ∷ firsts (before ++ s ∷ []) subjects
 
 -- whether a look is at one of the two maps of a memory node
 abbrev pub is_at_blocks : ℕ → Look → Bool

@@ -18,7 +18,8 @@ use Rattle.node_cache.specs.declared.entry.HeldGroup.{HeldGroup}
 use Rattle.node_cache.specs.declared.held.Held.{Held}
 use Rattle.node_cache.specs.declared.want.Want.{Want}
 use Rattle.node_cache.specs.declared.want.Want.TheVariants.{Inode, Chain, Slots, Map}
-use Rattle.plan_rules.specs.Steps.{Look, Record, Chaining, Group, BlockBits, InodeBits}
+use Rattle.plan_rules.specs.declared.look.Look.{Look}
+use Rattle.plan_rules.specs.declared.look.Look.TheVariants.{Record, Chaining, Group, BlockBits, InodeBits}
 use Rattle.plan_rules.specs.Orders.{wanted, looked_at}
 use Rattle.plan_rules.specs.Compared.{compares}
 

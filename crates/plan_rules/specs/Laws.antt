@@ -2,7 +2,8 @@
 use Rattle.std.specs.Prelude.{◌≡◌, ℕ, true, List, ◌++◌, All, Some, None}
 use Rattle.node_cache.specs.declared.held.Held.{Held}
 use Rattle.node_cache.specs.declared.want.Want.{Want}
-use Rattle.plan_rules.specs.Steps.{Look, Step, part_of, is_held, wanted_in, looks_in, refusal_in}
+use Rattle.plan_rules.specs.declared.look.Look.{Look}
+use Rattle.plan_rules.specs.Steps.{Step, part_of, is_held, wanted_in, looks_in, refusal_in}
 
 -- an order is gone through up to its end: no part is wanted, and no check fails
 pub record IsPassed (held : Held) (steps : List Step) : Type 0 where

@@ -10,7 +10,9 @@ use Rattle.node_cache.specs.declared.entry.Entry.{Entry}
 use Rattle.node_cache.specs.declared.held.Held.{Held}
 use Rattle.node_cache.specs.Cached.{held_of}
 use Rattle.node_cache.specs.Truth.{IsOwn, IsTrueEntry}
-use Rattle.plan_rules.specs.Steps.{Look, part_of, is_held, Record, Chaining, Group, BlockBits, InodeBits}
+use Rattle.plan_rules.specs.declared.look.Look.{Look}
+use Rattle.plan_rules.specs.declared.look.Look.TheVariants.{Record, Chaining, Group, BlockBits, InodeBits}
+use Rattle.plan_rules.specs.Steps.{part_of, is_held}
 use Rattle.plan_rules.specs.Told.{block_bits, inode_bits}
 use Rattle.plan_rules.specs.Compared.{compares}
 use Rattle.plan_rules.specs.Works.{IsWorkSet}

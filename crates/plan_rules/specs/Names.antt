@@ -5,7 +5,8 @@ use Rattle.fs_dir.specs.declared.slot.Slot.{Slot}
 use Rattle.fs_dir.specs.Slots.{has_name}
 use Rattle.fs_rules.specs.Arguments.{is_dot, is_dot_dot}
 use Rattle.node_cache.specs.declared.held.Held.{Held}
-use Rattle.plan_rules.specs.Steps.{Step, Looks, Record, Chaining, Group}
+use Rattle.plan_rules.specs.declared.look.Look.TheVariants.{Record, Chaining, Group}
+use Rattle.plan_rules.specs.Steps.{Step, Looks}
 use Rattle.plan_rules.specs.Told.{is_number, at_record, chains_of, dir_groups, group_of, found}
 
 -- ---- slots

@@ -22,7 +22,9 @@ use Rattle.fs_checks.specs.Removals.{dots_status, removal_row}
 use Rattle.fs_checks.specs.Naming.{link_row, way_row}
 use Rattle.node_cache.specs.declared.held.Held.{Held}
 use Rattle.node_cache.specs.declared.want.Want.{Want}
-use Rattle.plan_rules.specs.Steps.{Look, Step, Looks, Checks, Record, wanted_in, looks_in}
+use Rattle.plan_rules.specs.declared.look.Look.{Look}
+use Rattle.plan_rules.specs.declared.look.Look.TheVariants.{Record}
+use Rattle.plan_rules.specs.Steps.{Step, Looks, Checks, wanted_in, looks_in}
 use Rattle.plan_rules.specs.Told.{at_record, at_number, file_of, at_handle, found}
 use Rattle.plan_rules.specs.Names.{name_steps, list_steps, record_steps, target, parent_steps, leads_up, is_on_way}
 use Rattle.plan_rules.specs.Blocks.{whole}

@@ -4,7 +4,8 @@ use Rattle.std.specs.Option.{option_or}
 use Rattle.fs_rules.specs.Lists.{below}
 use Rattle.fs_rules.specs.Statuses.{fails_where, nospc}
 use Rattle.node_cache.specs.declared.held.Held.{Held}
-use Rattle.plan_rules.specs.Steps.{Step, Looks, Checks, BlockBits, InodeBits}
+use Rattle.plan_rules.specs.declared.look.Look.TheVariants.{BlockBits, InodeBits}
+use Rattle.plan_rules.specs.Steps.{Step, Looks, Checks}
 use Rattle.plan_rules.specs.Told.{free_on, free_number}
 use Rattle.plan_rules.specs.Names.{record_steps}
 

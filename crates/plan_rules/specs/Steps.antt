@@ -1,5 +1,5 @@
 -- A plan looks at parts of the cluster and makes checks, in an order.
-use Rattle.std.specs.Prelude.{ℕ, ◌==◌, Bool, false, if◌then◌else◌, List, [], ◌∷◌, get_or, Option, Some, None, is_some}
+use Rattle.std.specs.Prelude.{◌==◌, Bool, false, if◌then◌else◌, List, [], ◌∷◌, get_or, Option, Some, None, is_some}
 use Rattle.std.specs.Option.{option_map_or}
 use Rattle.std.specs.List.{list_any}
 use Rattle.fs_rules.specs.Statuses.{Check}
@@ -7,15 +7,8 @@ use Rattle.node_cache.specs.declared.held.Held.{Held}
 use Rattle.node_cache.specs.declared.want.Want.{Want}
 use Rattle.node_cache.specs.declared.want.Want.TheVariants.{Inode, Chain, Slots, Map}
 use Rattle.node_cache.specs.Cached.{held_of}
-
--- what is looked at: the record of a file, a chaining block of it by its index, a group of slots of a directory, and of a
--- memory node the bits of its blocks or those of its inodes
-pub data Look : Type 0 where
-  Record : ℕ → Look
-  Chaining : ℕ → ℕ → Look
-  Group : ℕ → ℕ → Look
-  BlockBits : ℕ → Look
-  InodeBits : ℕ → Look
+use Rattle.plan_rules.specs.declared.look.Look.{Look}
+use Rattle.plan_rules.specs.declared.look.Look.TheVariants.{Record, Chaining, Group, BlockBits, InodeBits}
 
 -- the part in which it lies: both maps of a memory node are one
 abbrev pub part_of : Look → Want
