@@ -12,6 +12,7 @@ pub mod ExistingLemmas
 pub mod NewFileLemmas
 pub mod MakeDirLemmas
 pub mod SymLinkLemmas
+pub mod CopyLemmas
 mod LeftLemmas
 mod ToldLemmas
 mod AboutLemmas

@@ -9,3 +9,4 @@ pub mod Reading
 pub mod Meets
 pub mod Creating
 pub mod NewFiles
+pub mod Copying

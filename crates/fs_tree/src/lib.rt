@@ -8,6 +8,7 @@
 
 mod call_bytes;
 mod change;
+mod copy;
 mod create;
 mod link;
 mod lookup;

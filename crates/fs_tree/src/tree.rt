@@ -9,6 +9,7 @@ ghost use Rattle.fs_listing.specs.Listing.{listing};
 ghost use Rattle.fs_tree.specs.Meets.{Meets};
 
 use crate::call_bytes::call_bytes;
+use crate::copy::copy_tree;
 use crate::procedures::carry_out;
 use crate::response::Response;
 use fs_decisions::{GivenNumbers, first_free};
@@ -63,6 +64,17 @@ impl Tree {
             },
             given,
             alloc,
+        })
+    }
+
+    /// A tree of its own with the same files. [`NoMemory`]: there is no memory for it.
+    pub fn copy(&self) -> Result<Tree, NoMemory>
+        ensures { IfOk result (λ copy. copy ≡ self.now) }
+    {
+        Ok(Tree {
+            plain: copy_tree(self.alloc, &self.plain)?,
+            given: self.given,
+            alloc: self.alloc,
         })
     }
 
