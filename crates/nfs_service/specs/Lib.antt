@@ -1,4 +1,5 @@
 pub mod Reply
 pub mod Mounting
+pub mod Needs
 pub mod Arguments
 pub mod ArgumentLemmas

@@ -1,17 +1,11 @@
 -- Carried: each change and each reply rests on messages that were delivered.
-use Rattle.std.specs.Prelude.{◌≡◌, ℕ, ◌-◌, ◌/◌, ◌%◌, ◌<◌, ◌==◌, nat_lt, take, drop, Bool, true, false, ◌&&◌, not, if◌then◌else◌, List, [], ◌∷◌, Option, Some, None, ◌⊎◌}
+use Rattle.std.specs.Prelude.{◌≡◌, ℕ, ◌<◌, ◌==◌, nat_lt, Bool, true, false, ◌&&◌, not, if◌then◌else◌, List, [], ◌∷◌, Option, Some, None, ◌⊎◌}
 use Rattle.std.specs.List.{list_any, list_all}
-use Rattle.std.specs.Int.{w32, from_be_bytes}
 use Rattle.std.specs.Option.{option_map_or}
-use Rattle.fs_rules.specs.declared.geometry.Geometry.{Geometry}
-use Rattle.fs_rules.specs.Handle.{handle, number_in}
-use Rattle.fs_rules.specs.Arguments.{handles_of}
-use Rattle.std.specs.Str.{bytes_eq}
 use Rattle.mini_tx.specs.declared.actor.Actor.{Actor}
 use Rattle.mini_tx.specs.declared.actor.Actor.TheVariants.{Node, Memory}
-use Rattle.nfs_service.specs.declared.request.Request.{Request}
-use Rattle.nfs_service.specs.declared.request.Request.TheVariants as request
 use Rattle.nfs_service.specs.Reply.{heard}
+pub use Rattle.nfs_service.specs.Needs.{needs_files}
 use Rattle.event_text.specs.declared.event.Event.{Event}
 use Rattle.event_text.specs.declared.event.Event.TheVariants as event
 use Rattle.line_text.specs.declared.line.Line.{Line}
@@ -20,26 +14,6 @@ use Rattle.line_text.specs.declared.sent_kind.SentKind.{SentKind}
 use Rattle.line_text.specs.declared.sent_kind.SentKind.TheVariants as sent
 use Rattle.transcript_rules.specs.Opening.{Opening}
 use Rattle.transcript_rules.specs.Book.{Book, Arrival, Post, numbered, is_actor, handled_now}
-
--- ---- which arrivals need the file system
-
--- the generation that a handle has
-abbrev pub generation_in : List ℕ → ℕ
-generation_in bytes = from_be_bytes w32 (take 4 (drop 8 bytes))
-
--- a number of the cluster: inode i of memory node m is file 16384 * m + i + 1
-abbrev pub is_number : Geometry → ℕ → Bool
-is_number g n = nat_lt 0 n && nat_lt ((n - 1) / 16384) g.memories && nat_lt ((n - 1) % 16384) g.inodes
-
--- a handle has its form, and a number of the cluster
-abbrev pub is_handle : Geometry → List ℕ → Bool
-is_handle g bytes = bytes_eq bytes (handle (number_in bytes) (generation_in bytes)) && is_number g (number_in bytes)
-
--- a call of the file system whose handles all are
-abbrev pub needs_files : Geometry → Request → Bool
-needs_files g (request.Told reply) = false
-needs_files g request.Silent = false
-needs_files g (request.Asked xid call cred) = list_all (is_handle g) (handles_of call)
 
 -- ---- what kind of message or event it is
 

@@ -1,14 +1,11 @@
-//! Which arrivals need the file system.
 ghost use Rattle.std.specs.Prelude.{◌≡◌};
-ghost use Rattle.std.specs.List.{list_all};
 ghost use Rattle.std.specs.Str.{bytes_eq};
 ghost use Rattle.fs_rules.specs.Handle.{handle};
-ghost use Rattle.fs_rules.specs.Arguments.{handles_of};
-ghost use Rattle.transcript_rules.specs.Carried.{generation_in, is_number, is_handle, needs_files};
+ghost use Rattle.nfs_service.specs.Needs.{are_handles, generation_in, is_handle, is_number, needs_files};
 
+use crate::request::Request;
 use fs_rules::{Geometry, handle_of, number_at};
 use nfs_proto::{Call, Handle};
-use nfs_service::Request;
 
 /// How many numbers the inodes of a memory node have room for.
 const NUMBERS_OF_A_MEMORY: u32 = 16_384;
@@ -26,7 +23,7 @@ pub fn needs_files(geometry: Geometry, request: &Request) -> bool
 
 // Whether all handles of a call have their form and a number of the cluster.
 fn are_handles(geometry: Geometry, call: &Call) -> bool
-    ensures { result ≡ list_all (is_handle geometry) (handles_of call.now) }
+    ensures { result ≡ are_handles geometry call.now }
 {
     match call {
         Call::Null | Call::Root | Call::WriteCache => true,

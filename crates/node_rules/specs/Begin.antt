@@ -1,0 +1,71 @@
+-- How a minitransaction is begun for an arrival.
+use Rattle.std.specs.Prelude.{◌≡◌, ℕ, ◌&&◌, nat_le, nat_lt, Bool, false, List, [], ◌∷◌, map, filter, Option, Some, None}
+use Rattle.mini_tx.specs.declared.item.Item.{Item}
+use Rattle.mini_tx.specs.declared.item.Item.TheVariants as item
+use Rattle.mini_tx.specs.Minitransactions.{memory_of, place_of}
+use Rattle.fs_rules.specs.declared.geometry.Geometry.{Geometry}
+use Rattle.node_cache.specs.declared.held.Held.{Held}
+use Rattle.node_cache.specs.declared.want.Want.{Want}
+use Rattle.plan_rules.specs.Fetched.{fetched}
+use Rattle.node_rules.specs.declared.arrival.Arrival.{Arrival}
+use Rattle.node_rules.specs.declared.attempt.Attempt.{Attempt}
+use Rattle.node_rules.specs.declared.attempt.Attempt.TheVariants as attempt
+use Rattle.node_rules.specs.declared.node_state.NodeState.{NodeState}
+use Rattle.node_rules.specs.declared.output.Output.{Output}
+use Rattle.node_rules.specs.declared.output.Output.TheVariants as output
+use Rattle.node_rules.specs.declared.plan.Plan.TheVariants as plan
+use Rattle.node_rules.specs.declared.running.Running.{Running}
+use Rattle.node_rules.specs.declared.running.Work.{Work}
+use Rattle.node_rules.specs.Plans.{Plans}
+use Rattle.node_rules.specs.Stock.{Stock, empty_held, gathered, wanted_by}
+
+-- an item that writes maps: they lie in the second page
+abbrev pub writes_map : Item → Bool
+writes_map (item.Compare memory at bytes) = false
+writes_map (item.Read memory at len) = false
+writes_map (item.Write memory at bytes) = nat_le 4096 at && nat_lt at 8192
+
+-- the memory nodes whose maps are written
+abbrev pub written : List Item → List ℕ
+written items = map memory_of (filter writes_map items)
+
+-- what is begun: its items, the file that it makes, and what it is for
+pub record Begun (F : Type 0) : Type 0 where
+  pub items : List Item
+  pub made : Option (ℕ × ℕ)
+  pub attempt : Attempt F
+
+-- of an arrival that has this work set: the fetch of the part that it wants, or its final where it wants none
+pub data Begins {F : Type 0} (plans : Plans F) (held : Held) (a : Arrival) : Begun F → Type 0 where
+  fetch : (w : Want) → wanted_by a held ≡ Some w → Begins plans held a (record { items = fetched held w; made = None; attempt = attempt.Fetch w })
+  final : (items : List Item) (answer : F) (made : Option (ℕ × ℕ)) (changed : List ℕ) → wanted_by a held ≡ None
+      → plans held a.call a.cred a.now a.id (plan.Final items answer made changed)
+      → Begins plans held a (record { items = items; made = made; attempt = attempt.Final (record { answer = answer; changed = changed; written = written items }) })
+
+-- what an arrival can use
+abbrev pub stock_of : {F : Type 0} → NodeState F → Work → Stock
+stock_of node work = record { held = work.held; cache = node.cache }
+
+-- the arrival once this was begun for it
+abbrev pub running_with : {F : Type 0} → Work → Held → Begun F → Running F
+running_with work held b = record { work = record work { held = held }; attempt = b.attempt; places = map place_of b.items }
+
+-- an arrival goes on: what it wants is moved from the cache, and then a minitransaction is begun for it
+pub record IsStarted {F : Type 0} (plans : Plans F) (node : NodeState F) (work : Work) (new : NodeState F) (o : Output) : Type 0 where
+  pub begun : Begun F
+  pub begins : Begins plans (gathered work.arrival (stock_of node work)).held work.arrival begun
+  pub new_is : new ≡ record node {
+    cache = (gathered work.arrival (stock_of node work)).cache;
+    running = Some (running_with work (gathered work.arrival (stock_of node work)).held begun);
+  }
+  pub output_is : o ≡ output.Start work.arrival.id begun.items begun.made
+
+-- an arrival as it starts
+abbrev pub fresh : Geometry → Arrival → Work
+fresh g a = record { arrival = a; held = empty_held g; failures = 0 }
+
+-- where none runs any more the one that came first starts, if any waits
+pub data GoesNext {F : Type 0} (plans : Plans F) (node : NodeState F) : NodeState F → List Output → Type 0 where
+  idle : node.waiting ≡ [] → GoesNext plans node (record node { running = None }) []
+  next : (a : Arrival) (rest : List Arrival) (new : NodeState F) (o : Output) → node.waiting ≡ a ∷ rest
+      → IsStarted plans (record node { running = None; waiting = rest }) (fresh node.geometry a) new o → GoesNext plans node new (o ∷ [])

@@ -1,0 +1,49 @@
+-- A node in order: what it has fits together, at each moment at which it waits for an event.
+use Rattle.std.specs.Prelude.{◌≡◌, ℕ, ◌<◌, false, List, length, slice_get, Some, None, is_some, true}
+use Rattle.fs_rules.specs.declared.geometry.Geometry.{Geometry}
+use Rattle.fs_rules.specs.Geometry.{IsWithinLimits}
+use Rattle.node_cache.specs.declared.entry.Entry.{Entry}
+use Rattle.node_cache.specs.declared.held.Held.{Held}
+use Rattle.node_cache.specs.Cached.{Cached, held_of}
+use Rattle.plan_rules.specs.Works.{IsFitEntry, IsTold, IsWorkSet}
+use Rattle.node_rules.specs.declared.arrival.Arrival.{Arrival}
+use Rattle.node_rules.specs.declared.attempt.Attempt.{Attempt}
+use Rattle.node_rules.specs.declared.attempt.Attempt.TheVariants as attempt
+use Rattle.node_rules.specs.declared.node_state.NodeState.{NodeState}
+use Rattle.node_rules.specs.declared.running.Running.{Running}
+use Rattle.node_rules.specs.declared.running.Work.{Work}
+use Rattle.node_rules.specs.Plans.{IsServed}
+use Rattle.node_rules.specs.Stock.{is_cached}
+
+-- a cache is in order: what it has can be held by a work set
+pub record IsCacheInOrder (g : Geometry) (cache : Cached) : Type 0 where
+  pub entries : (i : ℕ) (e : Entry) → slice_get cache.files i ≡ Some e → IsFitEntry g e
+  pub places : length cache.maps ≡ 8
+  pub pages : (m : ℕ) (page : List ℕ) → slice_get cache.maps m ≡ Some (Some page) → length page ≡ 4096
+
+-- no file has an entry in a work set and one in the cache
+abbrev pub AreApart : Held → Cached → Type 0
+AreApart held cache = (n : ℕ) → is_some (held_of n held.entries) ≡ true → held_of n cache.files ≡ None
+
+-- an arrival that is worked on
+pub record IsWorkInOrder (g : Geometry) (cache : Cached) (work : Work) : Type 0 where
+  pub served : IsServed g work.arrival.call
+  pub size : work.held.geometry ≡ g
+  pub held : IsWorkSet work.held
+  pub apart : AreApart work.held cache
+  pub few : work.failures < 8
+
+-- what is fetched is told by what is held, and the cache has nothing of it
+abbrev pub IsAttemptInOrder : {F : Type 0} → Held → Cached → Attempt F → Type 0
+IsAttemptInOrder held cache (attempt.Fetch w) = IsTold held w × (is_cached cache w ≡ false)
+IsAttemptInOrder held cache (attempt.Final p) = Unit {0}
+
+pub record IsRunningInOrder {F : Type 0} (g : Geometry) (cache : Cached) (r : Running F) : Type 0 where
+  pub work : IsWorkInOrder g cache r.work
+  pub attempt : IsAttemptInOrder r.work.held cache r.attempt
+
+pub record IsInOrder {F : Type 0} (node : NodeState F) : Type 0 where
+  pub limits : IsWithinLimits node.geometry
+  pub cache : IsCacheInOrder node.geometry node.cache
+  pub running : (r : Running F) → node.running ≡ Some r → IsRunningInOrder node.geometry node.cache r
+  pub waiting : (i : ℕ) (a : Arrival) → slice_get node.waiting i ≡ Some a → IsServed node.geometry a.call
