@@ -1,2 +1,3 @@
 pub mod ReactionLemmas
 pub mod DoubtLemmas
+pub mod SendingLemmas

@@ -19,15 +19,15 @@ use Rattle.mem_rules.specs.declared.difference.Difference.{Difference}
 use Rattle.mini_tx.specs.declared.cut_id.CutId.{CutId}
 use Rattle.mem_rules.specs.Fit.{IsOfTransactions}
 use Rattle.mem_rules.specs.Items.{range_of, writes_of}
-use Rattle.mem_rules.specs.Memory.{vote_kept}
+use Rattle.mem_rules.specs.Memory.{vote_kept, vote_of}
 use Rattle.mem_rules.specs.Rules as rules
 use Rattle.mem_rules.specs.Items.{first_difference}
 use Rattle.mem_rules.specs.Identifiers.{cut_precedes}
 use Rattle.mini_tx.specs.declared.held_answer.HeldAnswer.TheVariants as hold
-use Rattle.mem_rules.specs.State.{kept_of}
+use Rattle.mem_rules.specs.State.{State, kept_of}
 use Rattle.story_rules.specs.MemoryNodes.{MemoryNode, reaction}
 use Rattle.story_rules.specs.Steps.{grant_of, grant_in}
-use Rattle.cluster_laws.specs.Reactions.{is_grant, may_grant, grants, AnswersTellGrants, CopiesStay}
+use Rattle.cluster_laws.specs.Reactions.{is_grant, unvoted, grants, AnswersTellGrants, CopiesStay}
 
 -- no identifier
 abbrev pub nothing : Option TxId
@@ -157,8 +157,23 @@ on_hold n cut = go (rules.is_copied n.copy cut)
     go true = refl
     go false = floor n.state.cut
 
+-- whether the vote has an entry, and then whether there was none
+by_steps : (s : State) (id : TxId) (logged : Bool) → may (is_none (vote_of s id)) logged id ≡ unvoted s (if logged then Some id else None)
+by_steps s id true = ap (λ (b : Bool). if b then Some id else None) (with_true (is_none (vote_of s id)))
+  where
+    with_true : (b : Bool) → (b && true) ≡ b
+    with_true true = refl
+    with_true false = refl
+by_steps s id false = ap (λ (b : Bool). if b then Some id else None) (with_false (is_none (vote_of s id)))
+  where
+    with_false : (b : Bool) → (b && false) ≡ false
+    with_false true = refl
+    with_false false = refl
+
 pub answers_tell_grants : AnswersTellGrants
-answers_tell_grants n (message.Prepare id participants items) = by_record n id participants items (kept_of n.state.kept id) (rules.standing n.state id)
+answers_tell_grants n (message.Prepare id participants items) =
+    by_record n id participants items (kept_of n.state.kept id) (rules.standing n.state id)
+    ∙ ap (λ (m : Option TxId). grants m (rules.on_prepare n id participants items).answer) (by_steps n.state id (rules.is_logged participants items))
 answers_tell_grants n (message.Decide id commit) = on_decide n id [] [] commit (kept_of n.state.kept id) ∙ grants_nothing (rules.on_decide n id commit (kept_of n.state.kept id)).answer
 answers_tell_grants n (message.Forget id) = on_forget n id [] [] (kept_of n.state.kept id) ∙ grants_nothing (rules.on_forget n id (kept_of n.state.kept id)).answer
 answers_tell_grants n (message.Ask id) = on_ask n id [] [] (kept_of n.state.kept id) ∙ grants_nothing (rules.on_ask n id (kept_of n.state.kept id)).answer

@@ -1,5 +1,5 @@
 -- What a memory node's answer tells of its entry.
-use Rattle.std.specs.Prelude.{◌≡◌, ◌&&◌, Bool, false, is_none, Option, Some, None, if◌then◌else◌}
+use Rattle.std.specs.Prelude.{◌≡◌, Bool, false, is_none, Option, Some, None, if◌then◌else◌}
 use Rattle.mini_tx.specs.declared.message.Message.{Message}
 use Rattle.mini_tx.specs.declared.message.Message.TheVariants as message
 use Rattle.mini_tx.specs.declared.tx_id.TxId.{TxId}
@@ -30,23 +30,32 @@ is_grant (Some (message.Drop cut)) = false
 is_grant (Some (message.ReadCut cut place)) = false
 is_grant (Some (message.Piece cut place bytes)) = false
 
--- which identifier it may grant anew, by its message and the votes before it: one that had none, and whose vote has an entry
+-- the identifier of a message that asks for a vote which has an entry
+abbrev pub logged_in : Message → Option TxId
+logged_in (message.Prepare id participants items) = if is_logged participants items then Some id else None
+logged_in (message.Voted id v) = None
+logged_in (message.Decide id commit) = None
+logged_in (message.Done id) = None
+logged_in (message.Forget id) = None
+logged_in message.List = None
+logged_in (message.Kept ids cut) = None
+logged_in (message.Ask id) = None
+logged_in (message.Answer id ok) = None
+logged_in (message.Hold cut) = None
+logged_in (message.Held cut answer) = None
+logged_in (message.Release cut) = None
+logged_in (message.Drop cut) = None
+logged_in (message.ReadCut cut place) = None
+logged_in (message.Piece cut place bytes) = None
+
+-- this identifier, where it had no vote before
+abbrev pub unvoted : State → Option TxId → Option TxId
+unvoted s None = None
+unvoted s (Some id) = if is_none (vote_of s id) then Some id else None
+
+-- which identifier a memory node may grant anew
 abbrev pub may_grant : State → Message → Option TxId
-may_grant s (message.Prepare id participants items) = if is_none (vote_of s id) && is_logged participants items then Some id else None
-may_grant s (message.Voted id v) = None
-may_grant s (message.Decide id commit) = None
-may_grant s (message.Done id) = None
-may_grant s (message.Forget id) = None
-may_grant s message.List = None
-may_grant s (message.Kept ids cut) = None
-may_grant s (message.Ask id) = None
-may_grant s (message.Answer id ok) = None
-may_grant s (message.Hold cut) = None
-may_grant s (message.Held cut answer) = None
-may_grant s (message.Release cut) = None
-may_grant s (message.Drop cut) = None
-may_grant s (message.ReadCut cut place) = None
-may_grant s (message.Piece cut place bytes) = None
+may_grant s x = unvoted s (logged_in x)
 
 -- what it grants anew
 abbrev pub grants : Option TxId → Option Message → Option TxId

@@ -1,6 +1,7 @@
 //! Laws of what is in doubt.
 ghost use Rattle.cluster_laws.specs.Doubts.{CountsKeepDoubts, BeginningsAreInDoubt, RefusedAreNotInDoubt, DoubtsAreAlike};
 ghost use Rattle.cluster_laws.specs.Reactions.{AnswersTellGrants, CopiesStay};
+ghost use Rattle.cluster_laws.specs.Sending.{NodesSendToMemories};
 
 /// A Granted vote with an entry takes its participant out, and takes a place in the history where it is the last one.
 pub fn counts_keep_doubts()
@@ -30,4 +31,9 @@ pub fn answers_tell_grants()
 /// A message that is none about cuts leaves the copy of a cut as it is.
 pub fn copies_stay()
     ensures { CopiesStay }
+{}
+
+/// What goes to a memory node was sent by a node of the cluster, and is none about cuts.
+pub fn nodes_send_to_memories()
+    ensures { NodesSendToMemories }
 {}

@@ -1,0 +1,3 @@
+pub mod MemoryStep
+pub mod NodeStep
+pub mod BeginStep
