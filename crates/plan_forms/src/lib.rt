@@ -10,4 +10,4 @@ mod plan;
 mod space;
 
 pub use form::{AnswerForm, Piece, Pieces};
-pub use plan::Plan;
+pub use plan::{Plan, Reading};

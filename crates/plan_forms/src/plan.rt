@@ -1,5 +1,5 @@
 use crate::form::AnswerForm;
-use mini_tx::{Mini, Numbers};
+use mini_tx::{Items, Mini, Numbers};
 use node_cache::Want;
 
 /// What a call does next.
@@ -17,4 +17,11 @@ pub enum Plan {
         /// The files that are changed, in ascending number.
         changed: Numbers,
     },
+}
+
+/// What a final reads behind its comparisons, and how its answer is made of that.
+#[derive(Debug, Drop)]
+pub struct Reading {
+    pub items: Items,
+    pub form: AnswerForm,
 }

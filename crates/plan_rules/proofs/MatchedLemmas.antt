@@ -42,7 +42,7 @@ split : {X : Type 0} (P : X → Type 0) (xs ys : List X) → AllByRecursion P (x
 split P [] ys all = (tt, all)
 split P (x ∷ xs) ys all = let rest = split P xs ys all.1 in ((all.0, rest.0), rest.1)
 
-in_parts : {X Y : Type 0} (P : Y → Type 0) (f : X → List Y) (xs : List X) → AllByRecursion P (flat_map f xs) → AllByRecursion (λ x. AllByRecursion P (f x)) xs
+pub in_parts : {X Y : Type 0} (P : Y → Type 0) (f : X → List Y) (xs : List X) → AllByRecursion P (flat_map f xs) → AllByRecursion (λ x. AllByRecursion P (f x)) xs
 in_parts P f [] all = tt
 in_parts P f (x ∷ xs) all = let both = split P (f x) (flat_map f xs) all in (both.0, in_parts P f xs both.1)
 
@@ -84,11 +84,11 @@ of_all P (s ∷ subjects) before all first = next_by P before s subjects (list_a
 
 -- ---- entries
 
-both_true : (a b : Bool) → a && b ≡ true → (a ≡ true) × (b ≡ true)
+pub both_true : (a b : Bool) → a && b ≡ true → (a ≡ true) × (b ≡ true)
 both_true true b is = (refl, is)
 both_true false b is = absurd cc
 
-lies_at : (g : Geometry) (n : ℕ) → IsTrue (is_number g n) → LiesAt g n (memory_at n) (inode_at n)
+pub lies_at : (g : Geometry) (n : ℕ) → IsTrue (is_number g n) → LiesAt g n (memory_at n) (inode_at n)
 lies_at g n is =
     let first = both_true (nat_lt 0 n) (nat_lt (memory_at n) g.memories && nat_lt (inode_at n) g.inodes) is in
     let next = both_true (nat_lt (memory_at n) g.memories) (nat_lt (inode_at n) g.inodes) first.1 in
@@ -100,12 +100,12 @@ lies_at g n is =
     }
 
 -- the stamp of a record lies in the image as it lies in the record
-within : (image : List ℕ) (at : ℕ) → bytes_at (bytes_at image at 128) 24 16 ≡ bytes_at image (at + 24) 16
+pub within : (image : List ℕ) (at : ℕ) → bytes_at (bytes_at image at 128) 24 16 ≡ bytes_at image (at + 24) 16
 within image at =
     ap (take 16) (drop-take 24 104 (drop at image)) ∙ take-take 16 104 (drop 24 (drop at image)) (omega arith)
     ∙ ap (take 16) (drop-drop 24 at image)
 
-sixteen : (a : Attrs) → length (stamp a) ≡ 16
+pub sixteen : (a : Attrs) → length (stamp a) ≡ 16
 sixteen a = omega (arith, length-spelled (stamp_words a))
 
 -- ---- looks

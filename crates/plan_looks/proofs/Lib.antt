@@ -1,0 +1,4 @@
+pub mod GoesLemmas
+pub mod LookLemmas
+pub mod NameLemmas
+pub mod CompareLemmas

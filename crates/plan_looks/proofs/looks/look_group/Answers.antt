@@ -1,0 +1,23 @@
+use Rattle.std.proofs.Common.{◌≡◌, true, false, ap, sym, ◌∙◌}
+use Rattle.std.specs.Prelude.{is_some}
+use Rattle.std.specs.Option.{option_copied}
+use Rattle.node_cache.specs.declared.want.Want.TheVariants as want
+use Rattle.plan_rules.specs.declared.look.Look.TheVariants as look
+use Rattle.plan_rules.specs.Steps.{is_held}
+use Rattle.plan_looks.proofs.GoesLemmas.{looks_on, looks_in_vain}
+use Rattle.plan_looks.proofs.LookLemmas.{group_is_held}
+use Rattle.plan_looks.proofs.looks.look_group.Goals as goal
+
+pub returns-in_ok-push-in-Some-clause-goes : goal.returns-in_ok-push-in-Some-clause-goes
+returns-in_ok-push-in-Some-clause-goes c =
+    let held = c.args.held.now in
+    let there : is_held held (want.Slots c.args.number c.args.index) ≡ true =
+    group_is_held held c.args.number c.args.index ∙ ap is_some (sym c.group_in.ensures ∙ ap option_copied c.in-Some.is) in
+    looks_on held (look.Group c.args.number c.args.index) c.args.looks.now c.push.new.self there ((c.in_ok-push-in-Some.ensures {u = tt}).ok)
+
+pub returns-in-None-clause-goes : goal.returns-in-None-clause-goes
+returns-in-None-clause-goes c =
+    let held = c.args.held.now in
+    let lacks : is_held held (want.Slots c.args.number c.args.index) ≡ false =
+    group_is_held held c.args.number c.args.index ∙ ap is_some (sym c.group_in.ensures ∙ ap option_copied c.in-None.is) in
+    looks_in_vain held (look.Group c.args.number c.args.index) lacks

@@ -1,0 +1,11 @@
+pub mod OwnLemmas
+pub mod RuleLemmas
+pub mod AttrLemmas
+pub mod SpaceLemmas
+pub mod MatchLemmas
+pub mod GroupLemmas
+pub mod FoundLemmas
+pub mod NamedLemmas
+pub mod StepLemmas
+pub mod LookupLemmas
+pub mod PromiseLemmas
