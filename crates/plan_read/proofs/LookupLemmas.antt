@@ -1,6 +1,6 @@
 -- What LOOKUP goes through.
-use Rattle.std.proofs.Common.{◌≡◌, ℕ, true, false, cond, Bool, List, [], ◌∷◌, ◌++◌, map, Option, Some, None, Result, Ok, Err, refl, sym, ap, subst, ◌∙◌}
-use Rattle.std.specs.Prelude.{◌||◌, not, is_none}
+use Rattle.std.proofs.Common.{◌≡◌, ℕ, true, false, cond, List, [], ◌∷◌, ◌++◌, map, Option, Some, None, Result, Err, refl, sym, ap, subst, ◌∙◌}
+use Rattle.std.specs.Prelude.{◌||◌, not}
 use Rattle.std.specs.Option.{option_map_or}
 use Rattle.rpc_msg.specs.declared.cred.Cred.{Cred}
 use Rattle.fs_rules.specs.declared.file.File.{File}
@@ -47,7 +47,7 @@ module _ (held : Held) (n : ℕ) (name : List ℕ) where
   is_parent other is = (
     ap (λ b. cond (b || is_dot_dot name) [] (name_steps held n name)) other ∙ ap (λ b. cond b [] (name_steps held n name)) is,
     ap (λ b. cond b (Some n) (cond (is_dot_dot name) (at_record held n None (λ a. Some a.parent)) (found held n name))) other
-    ∙ ap (λ b. cond b (at_record held n None (λ a. Some a.parent)) (found held n name)) is,
+        ∙ ap (λ b. cond b (at_record held n None (λ a. Some a.parent)) (found held n name)) is,
   )
 
   pub is_found : is_dot name ≡ false → is_dot_dot name ≡ false
@@ -55,7 +55,7 @@ module _ (held : Held) (n : ℕ) (name : List ℕ) where
   is_found other none = (
     ap (λ b. cond (b || is_dot_dot name) [] (name_steps held n name)) other ∙ ap (λ b. cond b [] (name_steps held n name)) none,
     ap (λ b. cond b (Some n) (cond (is_dot_dot name) (at_record held n None (λ a. Some a.parent)) (found held n name))) other
-    ∙ ap (λ b. cond b (at_record held n None (λ a. Some a.parent)) (found held n name)) none,
+        ∙ ap (λ b. cond b (at_record held n None (λ a. Some a.parent)) (found held n name)) none,
   )
 
 -- behind the search

@@ -14,7 +14,7 @@ use Rattle.node_cache.specs.declared.held.Held.{Held}
 use Rattle.plan_rules.specs.declared.look.Look.{Look}
 use Rattle.plan_rules.specs.Compared.{compares}
 use Rattle.plan_rules.specs.Orders.{order, handle_steps, lookup_steps, looked_at}
-use Rattle.plan_rules.specs.Steps.{looks_in, refusal_in}
+use Rattle.plan_rules.specs.Steps.{refusal_in}
 use Rattle.plan_rules.specs.Works.{IsWorkSet}
 use Rattle.plan_forms.specs.declared.form.AnswerForm.{AnswerForm}
 use Rattle.plan_forms.specs.declared.plan.Plan.{Plan}
@@ -64,13 +64,17 @@ module _ (held : Held) (arrival : ℕ) (call : Call) (cred : Cred) (now : Stamp)
   pub read_plan : (r : Reading) (p : Plan) → GoesOn held (order held arrival call cred) [] looks → r ≡ reading_of held call → IsFinalOf held looks r p
       → IsPlan held arrival call cred now p
   read_plan r (Need w) goes same final = absurd final
-  read_plan r (Final mini form made changed) goes same final =
-      (goes.wanted, ended mini form made changed final.2 final.3 (record {
-        wanted = goes.wanted;
-        refused = λ status fails. absurd (two_ways (refusal_in (order held arrival call cred)) None status goes.passes fails);
-        answers = λ passes. (final.0 ∙ ap (λ ls. compares held ls ++ r.items) goes.looks ∙ ap (λ (x : Reading). compares held (looked_at held arrival call cred) ++ x.items) same,
-        final.1 ∙ ap (λ (x : Reading). x.form) same);
-      }))
+  read_plan r (Final mini form made changed) goes same final = (
+    goes.wanted,
+    ended mini form made changed final.2 final.3 (record {
+      wanted = goes.wanted;
+      refused = λ status fails. absurd (two_ways (refusal_in (order held arrival call cred)) None status goes.passes fails);
+      answers = λ passes. (
+        final.0 ∙ ap (λ ls. compares held ls ++ r.items) goes.looks ∙ ap (λ (x : Reading). compares held (looked_at held arrival call cred) ++ x.items) same,
+        final.1 ∙ ap (λ (x : Reading). x.form) same,
+      );
+    }),
+  )
 
   some_same : (a b : ℕ) → ◌≡◌ {A = Option ℕ} (Some a) (Some b) → a ≡ b
   some_same a b same = cc
@@ -78,15 +82,18 @@ module _ (held : Held) (arrival : ℕ) (call : Call) (cred : Cred) (now : Stamp)
   pub refused_plan : (status : ℕ) (r : Reading) (p : Plan) → IsRefused held (order held arrival call cred) [] looks status → r ≡ ready (Fault status)
       → IsFinalOf held looks r p → IsPlan held arrival call cred now p
   refused_plan status r (Need w) refused same final = absurd final
-  refused_plan status r (Final mini form made changed) refused same final =
-      (refused.wanted, ended mini form made changed final.2 final.3 (record {
-        wanted = refused.wanted;
-        refused = λ other fails. (
+  refused_plan status r (Final mini form made changed) refused same final = (
+    refused.wanted,
+    ended mini form made changed final.2 final.3 (record {
+      wanted = refused.wanted;
+      refused = λ other fails. (
         final.0 ∙ ap (λ ls. compares held ls ++ r.items) refused.looks ∙ ap (λ (x : Reading). compares held (looked_at held arrival call cred) ++ x.items) same
-        ∙ append-nil (compares held (looked_at held arrival call cred)),
-        final.1 ∙ ap (λ (x : Reading). x.form) same ∙ ap (λ k. (ready (Fault k)).form) (some_same status other (sym refused.fails ∙ fails)));
-        answers = λ passes. absurd (two_ways (refusal_in (order held arrival call cred)) None status passes refused.fails);
-      }))
+            ∙ append-nil (compares held (looked_at held arrival call cred)),
+        final.1 ∙ ap (λ (x : Reading). x.form) same ∙ ap (λ k. (ready (Fault k)).form) (some_same status other (sym refused.fails ∙ fails)),
+      );
+      answers = λ passes. absurd (two_ways (refusal_in (order held arrival call cred)) None status passes refused.fails);
+    }),
+  )
 
   pub stopped_plan : (e : Stop) (p : Plan) → Ends held (order held arrival call cred) [] looks e → IsStopped held looks e p → IsPlan held arrival call cred now p
   stopped_plan (stop.Need w) p wants is = subst (λ (x : Plan). IsPlan held arrival call cred now x) (sym is) wants

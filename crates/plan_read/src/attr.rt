@@ -29,10 +29,7 @@ pub(crate) fn get_attr(
     ensures gives { IfOk result (λ r. r ≡ get_attr_by held.now (number_in file.now.0)) }
 {
     let live = look_file(held, looks, file)?;
-    Ok(ready(
-        alloc,
-        Answer::Attr(fattr_of(live.number, live.attrs)),
-    ))
+    Ok(ready(alloc, Answer::Attr(fattr_of(live.number, live.attrs))))
 }
 
 /// An answer that reads nothing.

@@ -67,12 +67,7 @@ fn stopped(alloc: Global, held: &Held, looks: &Looks, stop: Stop) -> Result<Plan
 }
 
 // The final that compares what was looked at, and reads.
-fn final_of(
-    alloc: Global,
-    held: &Held,
-    looks: &Looks,
-    reading: Reading,
-) -> Result<Plan, NoMemory>
+fn final_of(alloc: Global, held: &Held, looks: &Looks, reading: Reading) -> Result<Plan, NoMemory>
     requires { IsWorkSet held.now }
     ensures { IfOk result (IsFinalOf held.now looks.now reading) }
 {

@@ -1,5 +1,5 @@
 -- A final that reads keeps its promise.
-use Rattle.std.proofs.Common.{arith, ◌≡◌, ℕ, ◌+◌, ◌%◌, true, false, cond, Bool, List, [], ◌∷◌, ◌++◌, Option, Some, None, refl, sym, ap, subst, ◌∙◌}
+use Rattle.std.proofs.Common.{arith, ◌≡◌, ℕ, zero, suc, ◌+◌, ◌*◌, ◌≤◌, ◌%◌, length, length-append, true, false, cond, Bool, List, [], ◌∷◌, ◌++◌, Option, Some, None, refl, sym, ap, subst, ◌∙◌}
 use Rattle.std.specs.Prelude.{All, ◌/◌, nat_eq, drop, map, take, unwrap_or}
 use Rattle.std.specs.Option.{option_map_or}
 use Rattle.std.specs.List.{list_any, AllByRecursion}
@@ -17,7 +17,7 @@ use Rattle.fs_rules.specs.Lists.{below}
 use Rattle.fs_rules.specs.Respond.{Responded, respond}
 use Rattle.mini_tx.specs.declared.item.Item.{Item}
 use Rattle.mini_tx.specs.declared.item.Item.TheVariants as item
-use Rattle.mini_tx.specs.Minitransactions.{is_write}
+use Rattle.mini_tx.specs.Minitransactions.{bytes_of, is_write}
 use Rattle.mini_tx.specs.FlatMemory.{Flat, ItemMatches, Matches, after, held_by, reads}
 use Rattle.fs_layout.specs.Places.{record_at}
 use Rattle.fs_image.specs.Owners.{Owners}
@@ -42,7 +42,10 @@ use Rattle.plan_rules.proofs.MatchedLemmas.{matched_looks_are_own}
 use Rattle.plan_rules.proofs.OrderLemmas.{all_looked_at_is_held}
 use Rattle.plan_rules.proofs.SearchLemmas.{found_there}
 use Rattle.plan_forms.specs.declared.form.AnswerForm.{AnswerForm}
-use Rattle.plan_forms.specs.Forms.{said}
+use Rattle.fs_rules.specs.declared.geometry.Geometry.{Geometry}
+use Rattle.fs_rules.specs.Geometry.{IsWithinLimits}
+use Rattle.plan_rules.specs.Fetched.{AreReads, read_items}
+use Rattle.plan_forms.specs.Forms.{AreReadsFor, said}
 use Rattle.read_laws.specs.Answers.{IsReading, map_read, reading_of}
 use Rattle.read_laws.specs.Laws.{AnswersAs, IsPlannedOver}
 use Rattle.read_laws.specs.Promise.{Does, IsTrueOf, IsOwnOf, KeepsPromise, IsReadFinal, ReadFinalsKeepPromise}
@@ -133,6 +136,51 @@ reading_matches held flat (call.GetAttr file) is = tt
 reading_matches held flat (call.Lookup dir name) is = tt
 reading_matches held flat (call.StatFs file) is = map_reads_match held flat (below held.geometry.memories)
 reading_matches held flat _ is = tt
+
+-- ---- reads that are as many and as long
+
+compares_read_none : (items others : List Item) → AllByRecursion Compares items → read_items (items ++ others) ≡ read_items others
+compares_read_none [] others all = refl
+compares_read_none (item.Compare memory at bytes ∷ items) others all = compares_read_none items others all.1
+compares_read_none (item.Read memory at len ∷ items) others all = absurd all.0
+compares_read_none (item.Write memory at bytes ∷ items) others all = absurd all.0
+
+maps_all_read : (g : Geometry) (ms : List ℕ) → read_items (map (map_read g) ms) ≡ map (map_read g) ms
+maps_all_read g [] = refl
+maps_all_read g (m ∷ ms) = ap (λ is. map_read g m ∷ is) (maps_all_read g ms)
+
+length_below : (n : ℕ) → length (below n) ≡ n
+unfolding below
+length_below zero = refl
+length_below (suc n) = let rest = length_below n in omega (arith, rest, length-append (below n) (n ∷ []))
+
+as_many : (g : Geometry) (rs : List (List ℕ)) (ms : List ℕ) → map length rs ≡ map bytes_of (map (map_read g) ms) → length rs ≡ length ms
+as_many g [] [] all = refl
+as_many g [] (m ∷ ms) all = absurd cc
+as_many g (r ∷ rs) [] all = absurd cc
+as_many g (r ∷ rs) (m ∷ ms) all = let rest : map length rs ≡ map bytes_of (map (map_read g) ms) = cc in ap suc (as_many g rs ms rest)
+
+as_long : (g : Geometry) (rs : List (List ℕ)) (ms : List ℕ) → map length rs ≡ map bytes_of (map (map_read g) ms) → AllByRecursion (λ r. g.blocks ≤ 8 * length r) rs
+as_long g [] ms all = tt
+as_long g (r ∷ rs) [] all = absurd cc
+as_long g (r ∷ rs) (m ∷ ms) all =
+    let first : length r ≡ (g.blocks + 7) / 8 = cc in
+    let rest : map length rs ≡ map bytes_of (map (map_read g) ms) = cc in
+    (omega (arith, first), as_long g rs ms rest)
+
+reading_fits : (held : Held) (c : Call) → IsReading c → IsWithinLimits held.geometry → (rs : List (List ℕ))
+    → map length rs ≡ map bytes_of (read_items (reading_of held c).items) → AreReadsFor (reading_of held c).form rs
+reading_fits held (call.GetAttr file) is limits rs all = tt
+reading_fits held (call.Lookup dir name) is limits rs all = tt
+reading_fits held (call.StatFs file) is limits rs all =
+    let g = held.geometry in
+    let each : map length rs ≡ map bytes_of (map (map_read g) (below g.memories)) = all ∙ ap (map bytes_of) (maps_all_read g (below g.memories)) in
+    record {
+      limits = limits;
+      each = as_many g rs (below g.memories) each ∙ length_below g.memories;
+      whole = All-from_recursion (λ r. g.blocks ≤ 8 * length r) rs (as_long g rs (below g.memories) each);
+    }
+reading_fits held _ is limits rs all = absurd is
 
 -- each procedure answers as the rules do
 answers_as : (held : Held) (flat : Flat) (t : PlainTree) (o : Owners) (arrival : ℕ) (c : Call) (cred : Cred) (now : Stamp) (start : ℕ) → IsReading c
@@ -267,8 +315,16 @@ module _ (held : Held) (arrival : ℕ) (c : Call) (cred : Cred) (now : Stamp) (m
         (All-from_recursion (ItemMatches flat) (compares held looks ++ more)
         (joined (ItemMatches flat) (compares held looks) more first_matches (reading_matches held flat c reading)))
 
+  fits_by : (q : Option ℕ) → refusal_in steps ≡ q → (rs : List (List ℕ)) → AreReads mini rs → AreReadsFor form rs
+  fits_by (Some status) is rs all = subst (λ (f : AnswerForm). AreReadsFor f rs) (sym (final.refused status is).1) tt
+  fits_by None is rs all =
+      subst (λ (f : AnswerForm). AreReadsFor f rs) (sym (final.answers is).1)
+      (reading_fits held c reading work.limits rs
+      (all ∙ ap (λ (items : List Item). map bytes_of (read_items items)) (final.answers is).0
+      ∙ ap (map bytes_of) (compares_read_none (compares held looks) more (all_compare held looks))))
+
   pub keeps : KeepsPromise held arrival c cred now mini form None []
-  keeps = record { does = does; matches = λ flat t of_it. matches_by flat t of_it (refusal_in steps) refl }
+  keeps = record { does = does; matches = λ flat t of_it. matches_by flat t of_it (refusal_in steps) refl; fits = fits_by (refusal_in steps) refl }
 
 pub read_finals_keep_promise : ReadFinalsKeepPromise
 read_finals_keep_promise held arrival c cred now mini form work reading final = keeps held arrival c cred now mini form work reading final

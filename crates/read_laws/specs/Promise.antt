@@ -16,6 +16,7 @@ use Rattle.node_cache.specs.declared.entry.Entry.{Entry}
 use Rattle.node_cache.specs.declared.held.Held.{Held}
 use Rattle.node_cache.specs.Truth.{IsOwn}
 use Rattle.plan_rules.specs.Compared.{compares}
+use Rattle.plan_rules.specs.Fetched.{AreReads}
 use Rattle.plan_rules.specs.Matched.{AreTrue}
 use Rattle.plan_rules.specs.Orders.{order, looked_at, wanted}
 use Rattle.plan_rules.specs.Steps.{refusal_in}
@@ -24,7 +25,7 @@ use Rattle.plan_forms.specs.declared.form.AnswerForm.{AnswerForm}
 use Rattle.plan_forms.specs.declared.form.AnswerForm.TheVariants.{Ready}
 use Rattle.plan_forms.specs.declared.plan.Plan.{Plan}
 use Rattle.plan_forms.specs.declared.plan.Plan.TheVariants.{Need, Final}
-use Rattle.plan_forms.specs.Forms.{said}
+use Rattle.plan_forms.specs.Forms.{AreReadsFor, said}
 use Rattle.read_laws.specs.Answers.{IsReading, reading_of}
 
 -- ---- what a final does to a flat memory
@@ -53,12 +54,13 @@ pub record IsOwnOf (held : Held) (flat : Flat) (t : PlainTree) : Type 0 where
   pub entries : (i : ℕ) (e : Entry) → slice_get held.entries i ≡ Some e → IsOwn t.geometry flat (stands.owners.place e.number) e
   pub maps : (m : ℕ) (page : List ℕ) → slice_get held.maps m ≡ Some (Some page) → page ≡ bytes_at (held_by flat m) 4096 4096
 
--- where a final matches a flat memory of which all that is held is true it does what the rules say; and it matches where all that
--- is held is the flat memory's own
+-- where a final matches a flat memory of which all that is held is true it does what the rules say; it matches where all that is
+-- held is the flat memory's own; and what is as much and as long as it reads makes its answer
 pub record KeepsPromise (held : Held) (arrival : ℕ) (call : Call) (cred : Cred) (now : Stamp) (mini : List Item) (form : AnswerForm) (made : Option (ℕ × ℕ)) (changed : List ℕ) : Type 0 where
   pub does : (flat : Flat) (t : PlainTree) → IsTrueOf held flat t → Matches mini flat
       → Does flat t (respond t call cred now (arrival % t.geometry.memories)) mini form made changed
   pub matches : (flat : Flat) (t : PlainTree) → IsOwnOf held flat t → Matches mini flat
+  pub fits : (rs : List (List ℕ)) → AreReads mini rs → AreReadsFor form rs
 
 -- ---- plans
 

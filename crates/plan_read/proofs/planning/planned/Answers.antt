@@ -1,4 +1,4 @@
-use Rattle.std.proofs.Common.{◌≡◌, ℕ, [], List, subst}
+use Rattle.std.proofs.Common.{[], List, subst}
 use Rattle.plan_rules.specs.declared.look.Look.{Look}
 use Rattle.plan_rules.specs.Orders.{order}
 use Rattle.plan_looks.specs.Goes.{Ends, GoesOn}
