@@ -68,9 +68,9 @@ part_before n e p before = no_part (is_actor p.from (Node n)) (is_prepare p.word
 pub votes_behind : (posts : List Post) (i n e : ℕ) → AllWithin (λ (p : Post). nat_lt p.under e ≡ true) posts 0 i → i ≤ length posts → have_votes (drop i posts) n e ≡ have_votes posts n e
 votes_behind posts i n e before within =
     ap (λ (g : Post → Bool). list_all g (drop i posts)) (fun_ext (λ (p : Post). ap (λ (b : Bool). if is_part n e p then b else true)
-      (any_behind (is_vote n p.to e) posts i (λ k d low high. vote_before n e p.to (get_or posts k d) (before k d low high)) within)))
+    (any_behind (is_vote n p.to e) posts i (λ k d low high. vote_before n e p.to (get_or posts k d) (before k d low high)) within)))
     ∙ all_behind (λ (p : Post). if is_part n e p then has_vote posts n p.to e else true) posts i
-      (λ k d low high. let p = get_or posts k d in ap (λ (b : Bool). if b then has_vote posts n p.to e else true) (part_before n e p (before k d low high))) within
+    (λ k d low high. let p = get_or posts k d in ap (λ (b : Bool). if b then has_vote posts n p.to e else true) (part_before n e p (before k d low high))) within
 
 -- ---- the walk from the back
 
@@ -88,16 +88,17 @@ pub attempt_found : (n now : ℕ) (posts : List Post) (end : ℕ) (d : Post) →
 attempt_found n now posts end d some so_far is =
     let p = get_or posts (end - 1) d in
     sym (ap (λ (o : Option Post). option_map_or (λ (q : Post). q.under) o 0)
-      (sym so_far.1 ∙ last_back (is_attempt n now) posts end d some so_far.0 ∙ ap (λ (b : Bool). cond b (Some p) (last_of (is_attempt n now) (take (end - 1) posts))) is))
+    (sym so_far.1 ∙ last_back (is_attempt n now) posts end d some so_far.0 ∙ ap (λ (b : Bool). cond b (Some p) (last_of (is_attempt n now) (take (end - 1) posts))) is))
 
 pub attempt_passed : (n now : ℕ) (posts : List Post) (end : ℕ) (d : Post) → 0 < end
     → (end ≤ length posts) × (last_of (is_attempt n now) (take end posts) ≡ last_of (is_attempt n now) posts)
     → is_attempt n now (get_or posts (end - 1) d) ≡ false
     → (end - 1 ≤ length posts) × (last_of (is_attempt n now) (take (end - 1) posts) ≡ last_of (is_attempt n now) posts)
 attempt_passed n now posts end d some so_far is =
-    let p = get_or posts (end - 1) d in
-    (omega (arith, so_far.0),
-    sym (ap (λ (b : Bool). cond b (Some p) (last_of (is_attempt n now) (take (end - 1) posts))) is) ∙ sym (last_back (is_attempt n now) posts end d some so_far.0) ∙ so_far.1)
+    let p = get_or posts (end - 1) d in (
+      omega (arith, so_far.0),
+      sym (ap (λ (b : Bool). cond b (Some p) (last_of (is_attempt n now) (take (end - 1) posts))) is) ∙ sym (last_back (is_attempt n now) posts end d some so_far.0) ∙ so_far.1,
+    )
 
 pub no_attempt : (n now : ℕ) (posts : List Post) (end : ℕ) → end ≤ 0
     → last_of (is_attempt n now) (take end posts) ≡ last_of (is_attempt n now) posts → 0 ≡ last_attempt n now posts

@@ -195,7 +195,7 @@ fn heard_in(post: Post, heard: u64) -> Post
 }
 
 // Whether an actor is one of these.
-fn is_among(who: Actor, down: &[Actor]) -> bool
+pub(crate) fn is_among(who: Actor, down: &[Actor]) -> bool
     ensures { result ≡ list_any (is_actor who) down.now }
 {
     down.iter().any(|other| is_actor(who, *other))

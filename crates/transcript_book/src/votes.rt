@@ -7,7 +7,9 @@ ghost use Rattle.transcript_rules.specs.Cause.{is_refused_since, is_hold, is_for
 ghost use Rattle.transcript_rules.specs.Carried.{is_attempt, last_attempt, is_vote, has_vote, is_part, have_votes, is_prepare, is_granted};
 
 use mini_tx::Actor;
-use transcript_checks::{is_actor, is_forcing_word, is_granted, is_hold_word, is_prepare, is_refusal};
+use transcript_checks::{
+    is_actor, is_forcing_word, is_granted, is_hold_word, is_prepare, is_refusal,
+};
 use transcript_rules::Post;
 
 /// How many of these messages are votes to a node that are not granted and were delivered after that event.
@@ -73,7 +75,9 @@ fn posted_before(posts: &[Post], event: u64) -> usize
 fn have_votes_of(posts: &[Post], node: u32, event: u64) -> bool
     ensures { result ≡ have_votes posts.now node event }
 {
-    posts.iter().all(|post| has_its_vote(posts, post, node, event))
+    posts
+        .iter()
+        .all(|post| has_its_vote(posts, post, node, event))
 }
 
 fn has_its_vote(posts: &[Post], post: &Post, node: u32, event: u64) -> bool

@@ -100,9 +100,13 @@ HasRetryCause book arrival a retry.Unreached = IsGivenUp book arrival a
 
 -- ---- arrivals that are dropped in their own event, by the first rule that fits
 
+-- an arrival runs or waits at a node and came before an event
+abbrev pub is_open_before : ℕ → ℕ → Arrival → Bool
+is_open_before n now a = is_open n a && nat_lt a.under now
+
 -- how many others run or wait at the node
 abbrev pub others_open : Book → ℕ → ℕ
-others_open book n = count_by (λ a. is_open n a && nat_lt a.under book.under) book.arrivals
+others_open book n = count_by (is_open_before n book.under) book.arrivals
 
 -- its node is up
 pub record IsMet (book : Book) (a : Arrival) : Type 0 where

@@ -169,8 +169,15 @@ abbrev pub with_next : Book → Next → Book
 with_next book n = option_map_or (λ e. begun (record book { taken = n.taken; drained = n.drained; now = Some e; under = book.under + 1; said = [] }) e) n.comes book
 
 -- an arrival ends
+abbrev pub with_end : Ended → Arrival → Arrival
+with_end how a = record a { ended = Some how }
+
+-- it made this change
+abbrev pub with_point : ℕ → Arrival → Arrival
+with_point point a = record a { point = Some point }
+
 abbrev pub ended_as : Book → ℕ → Ended → Book
-ended_as book number how = record book { arrivals = with_numbered book.arrivals number (λ a. record a { ended = Some how }) }
+ended_as book number how = record book { arrivals = with_numbered book.arrivals number (with_end how) }
 
 -- how an arrival ends that has no reply after it ran
 abbrev pub retried_as : RetryWhy → Ended
@@ -180,7 +187,7 @@ retried_as other = Retried
 -- a change: the tree that the arrival's call makes of the last one
 abbrev pub changed : Book → ℕ → ℕ → Book
 changed book point number =
-    option_map_or (λ e. record book { trees = book.trees ++ e.tree ∷ []; arrivals = with_numbered book.arrivals number (λ a. record a { point = Some point }) })
+    option_map_or (λ e. record book { trees = book.trees ++ e.tree ∷ []; arrivals = with_numbered book.arrivals number (with_point point) })
     (option_and_then (λ a. option_and_then (response a number) (tree_at book (points_of book))) (numbered book.arrivals number)) book
 
 -- the lines of a listing of the tree of a backup

@@ -12,4 +12,4 @@ returns c =
     let posts = c.args.posts.now.items in
     ap (λ (p : Post). slice_set posts c.args.index p) c.heard_in.ensures
     ∙ set_numbered_at posts c.args.index (left_out) c.index-post.result.now
-      (slice_get_read posts (length posts) c.args.index c.index-post.result.now refl c.requires c.index-post.ensures)
+    (slice_get_read posts (length posts) c.args.index c.index-post.result.now refl c.requires c.index-post.ensures)
