@@ -1,8 +1,7 @@
 -- The arrivals that run or wait, beside all.
-use Rattle.std.specs.Prelude.{◌≡◌, ℕ, ◌+◌, ◌==◌, ◌&&◌, nat_lt, Bool, true, false, List, [], ◌∷◌, if◌then◌else◌, Option, Some, None}
+use Rattle.std.specs.Prelude.{ℕ, ◌+◌, ◌==◌, ◌&&◌, nat_lt, Bool, true, false, List, [], ◌∷◌, if◌then◌else◌, Option, Some, None}
 use Rattle.std.specs.Option.{option_map_or}
 use Rattle.transcript_rules.specs.declared.arrival.Arrival.{Arrival}
-use Rattle.transcript_rules.specs.declared.ended.Ended.{Ended}
 use Rattle.transcript_book.specs.declared.open.Open.{Open}
 
 -- it has not ended

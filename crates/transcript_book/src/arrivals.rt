@@ -107,7 +107,8 @@ impl Arrivals {
     /// The least number of changes, and at most so many, that stood before an arrival which has not ended.
     pub fn least_points(&self, points: u64) -> u64
         ensures bound { result ≤ points }
-        ensures each { (a : AnArrival) (k : ℕ) → numbered self.now k ≡ Some a → a.ended ≡ None → result ≤ a.points }
+        ensures each { (a : AnArrival) (k : ℕ) → numbered self.now k ≡ Some a → a.ended ≡ None
+            → result ≤ a.points }
     {
         least_points(&self.going, points)
     }

@@ -37,7 +37,8 @@ impl Model for Mail {
 
     ghost view = { λ m. m.posts.items };
 
-    ghost invariant = { λ m. ArePassed m.posts.items m.first × IsNonDecreasingBy (λ (p : APost). p.under) m.posts.items };
+    ghost invariant = { λ m. ArePassed m.posts.items m.first
+        × IsNonDecreasingBy (λ (p : APost). p.under) m.posts.items };
 }
 
 impl Mail {

@@ -57,7 +57,8 @@ impl Said {
 
     /// One line more.
     pub fn say(&mut self, line: &Line) -> Result<(), NoMemory>
-        ensures { (lines : List ALine) → AreSaid lines self.old → OnOk result (AreSaid (lines ++ line.now ∷ []) self.new) }
+        ensures { (lines : List ALine) → AreSaid lines self.old
+            → OnOk result (AreSaid (lines ++ line.now ∷ []) self.new) }
     {
         push_downed(&mut self.downs, line)?;
         self.none = false;

@@ -1,9 +1,8 @@
-use Rattle.std.proofs.Common.{refl, ◌∙◌, ap, sym, length, add-one}
+use Rattle.std.proofs.Common.{refl, ◌∙◌, ap, length}
 use Rattle.std.specs.Prelude.{slice_set}
 use Rattle.std.proofs.lemmas.Option.{slice_get_read}
 use Rattle.transcript_rules.specs.declared.post.Post.{Post}
 use Rattle.transcript_rules.specs.Next.{handed_among}
-use Rattle.transcript_rules.specs.Book.{with_numbered}
 use Rattle.transcript_book.proofs.PostLemmas.{set_numbered_at}
 use Rattle.transcript_book.proofs.mail.hand_on.Goals as goal
 

@@ -1,6 +1,4 @@
-use Rattle.std.proofs.Common.{◌≡◌, ◌+◌, ℕ, length, Some, None, sym, ap, subst, ◌∙◌, arith, get_or, ◌<◌}
-use Rattle.std.proofs.lemmas.Option.{slice_get-get_or}
-use Rattle.transcript_rules.specs.declared.post.Post.{Post}
+use Rattle.std.proofs.Common.{◌≡◌, ℕ, length, sym, subst, arith}
 use Rattle.transcript_book.specs.Posts.{ArePassed}
 use Rattle.transcript_book.proofs.PostLemmas.{least_at, least_none}
 use Rattle.transcript_book.proofs.mail.number_at.Goals as goal

@@ -1,4 +1,4 @@
-use Rattle.std.proofs.Common.{length, ◌≡◌, ◌∙◌, ap, List, ◌∷◌, [], ◌++◌, ◌+◌}
+use Rattle.std.proofs.Common.{length, ◌∙◌, ap, List, ◌∷◌, [], ◌++◌, ◌+◌}
 use Rattle.transcript_rules.specs.declared.arrival.Arrival.{Arrival}
 use Rattle.transcript_book.specs.declared.open.Open.{Open}
 use Rattle.transcript_book.proofs.OpenLemmas.{arrived_kept}

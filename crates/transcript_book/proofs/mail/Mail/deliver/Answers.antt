@@ -1,7 +1,6 @@
 use Rattle.std.proofs.Common.{◌≡◌, List, length, ◌<◌, ◌≤◌, refl, sym, subst}
 use Rattle.transcript_rules.specs.declared.post.Post.{Post}
 use Rattle.transcript_rules.specs.Next.{handed_among}
-use Rattle.transcript_rules.specs.Book.{with_numbered}
 use Rattle.transcript_book.proofs.PostLemmas.{kept, not_numbered}
 use Rattle.transcript_book.proofs.mail.Mail.deliver.Goals as goal
 

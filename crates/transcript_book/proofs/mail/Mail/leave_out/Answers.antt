@@ -1,7 +1,6 @@
 use Rattle.std.proofs.Common.{◌≡◌, List, length, ◌<◌, ◌≤◌, refl, sym, subst}
 use Rattle.transcript_rules.specs.declared.post.Post.{Post}
 use Rattle.transcript_rules.specs.Next.{left_out}
-use Rattle.transcript_rules.specs.Book.{with_numbered}
 use Rattle.transcript_book.proofs.PostLemmas.{kept, not_numbered}
 use Rattle.transcript_book.proofs.mail.Mail.leave_out.Goals as goal
 

@@ -1,10 +1,9 @@
-use Rattle.std.proofs.Common.{◌≡◌, ℕ, List, refl, sym, ap, ◌∙◌, subst}
+use Rattle.std.proofs.Common.{sym, ap, ◌∙◌}
 use Rattle.std.specs.Prelude.{nat_le, max}
 use Rattle.std.specs.List.{list_any}
-use Rattle.mini_tx.specs.declared.actor.Actor.{Actor}
 use Rattle.transcript_rules.specs.Book.{is_actor}
 use Rattle.transcript_rules.specs.Truth.{is_mounting_line}
-use Rattle.transcript_rules.specs.Place.{rank, is_lost_line, is_retry_line, is_sent, is_sent_by_memory}
+use Rattle.transcript_rules.specs.Place.{is_lost_line, is_retry_line, is_sent, is_sent_by_memory}
 use Rattle.transcript_book.proofs.SaidLemmas.{some_now, higher, any_said, downs_more}
 use Rattle.transcript_book.proofs.said.Said.say.Goals as goal
 
