@@ -14,7 +14,7 @@ use std::alloc::Global;
 use std::marker::Model;
 use transcript_rules::{Arrival, Ended};
 
-/// The datagrams that came, in order.
+/// The datagrams that came, numbered from 1. A contract sees the list of them.
 #[derive(Debug, Drop)]
 pub struct Arrivals {
     told: Vec<Arrival>,
@@ -47,14 +47,14 @@ impl Arrivals {
         }
     }
 
-    /// How many there are.
+    /// How many came.
     pub fn len(&self) -> usize
         ensures { result ≡ length self.now }
     {
         self.told.len()
     }
 
-    /// Arrival `number`.
+    /// Arrival `number`; `None` exactly where none has this number.
     pub fn get(&self, number: u64) -> Option<&Arrival>
         ensures { option_copied result ≡ numbered self.now number }
     {
@@ -64,7 +64,7 @@ impl Arrivals {
         Some(&self.told[(number - 1) as usize])
     }
 
-    /// One more, which has not ended. On [`NoMemory`] the arrivals are as before.
+    /// One more, which has not ended. [`NoMemory`]: there is no memory for it, and whether it came is not said.
     pub fn arrive(&mut self, arrival: Arrival) -> Result<(), NoMemory>
         requires { arrival.ended ≡ None }
         ensures ok { OnOk result (self.new ≡ self.old ++ arrival ∷ []) }
@@ -77,7 +77,7 @@ impl Arrivals {
         Ok(())
     }
 
-    /// Arrival `number` ends.
+    /// Arrival `number` ends so. Nothing changes where none has this number.
     pub fn end(&mut self, number: u64, how: Ended)
         ensures { self.new ≡ with_numbered self.old number (with_end how) }
     {
@@ -87,7 +87,7 @@ impl Arrivals {
         }
     }
 
-    /// Arrival `number` made the change with this number.
+    /// Arrival `number` made the change `point`. Nothing changes where none has this number.
     pub fn change(&mut self, number: u64, point: u64)
         ensures { self.new ≡ with_numbered self.old number (with_point point) }
     {
@@ -96,7 +96,7 @@ impl Arrivals {
         }
     }
 
-    /// A node goes down, and what ran or waited there is lost.
+    /// A node goes down, and what ran or waited there is lost. It looks at every arrival.
     pub fn node_down(&mut self, node: u32)
         ensures { self.new ≡ map (lost_at node) self.old }
     {
@@ -104,7 +104,7 @@ impl Arrivals {
         without_node(&mut self.going, node);
     }
 
-    /// The least number of changes, and at most so many, that stood before an arrival which has not ended.
+    /// The least number of changes that stood before an arrival which has not ended, and at most `points`.
     pub fn least_points(&self, points: u64) -> u64
         ensures bound { result ≤ points }
         ensures each { (a : AnArrival) (k : ℕ) → numbered self.now k ≡ Some a → a.ended ≡ None
@@ -113,14 +113,14 @@ impl Arrivals {
         least_points(&self.going, points)
     }
 
-    /// The arrival that runs at a node.
+    /// The arrival that runs at a node: the earliest that has not ended; `None` exactly where there is none.
     pub fn running_at(&self, node: u32) -> Option<u64>
         ensures { result ≡ first_open node 1 self.now }
     {
         first_at(&self.going, node)
     }
 
-    /// How many run or wait at a node that came before this event.
+    /// How many that run or wait at a node came before the event `now`.
     pub fn open_before(&self, node: u32, now: u64) -> usize
         ensures { result ≡ count_by (is_open_before node now) self.now }
     {

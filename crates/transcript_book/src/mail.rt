@@ -18,7 +18,7 @@ use std::marker::Model;
 use transcript_checks::is_actor;
 use transcript_rules::Post;
 
-/// The messages that were posted.
+/// The messages that were posted, numbered from 1. A contract sees the list of them, oldest first.
 #[derive(Debug, Drop)]
 pub struct Mail {
     posts: Vec<Post>,
@@ -52,14 +52,14 @@ impl Mail {
         }
     }
 
-    /// How many there are.
+    /// How many were posted.
     pub fn len(&self) -> usize
         ensures { result ≡ length self.now }
     {
         self.posts.len()
     }
 
-    /// Message `k`.
+    /// Message `k`; `None` exactly where none has this number.
     pub fn get(&self, k: u64) -> Option<&Post>
         ensures { option_copied result ≡ numbered self.now k }
     {
@@ -69,7 +69,7 @@ impl Mail {
         Some(&self.posts[(k - 1) as usize])
     }
 
-    /// Posts one more.
+    /// Posts one more, in an event that is not before that of any other. On [`NoMemory`] the messages are as before.
     pub fn post(&mut self, post: Post) -> Result<(), NoMemory>
         requires { All (λ (p : APost). p.under ≤ post.under) self.old }
         ensures ok { OnOk result (self.new ≡ self.old ++ post ∷ []) }
@@ -79,7 +79,8 @@ impl Mail {
         Ok(())
     }
 
-    /// Message `k` is delivered in this event, and handled where its receiver is not among those that are down.
+    /// Message `k` is delivered in the event `under`: it waits no more, and is handled where its receiver is not among
+    /// `down`. Nothing changes where no message has this number.
     pub fn deliver(&mut self, k: u64, under: u64, down: &[Actor])
         ensures { self.new ≡ with_numbered self.old k (handed_among down.now under) }
     {
@@ -88,7 +89,7 @@ impl Mail {
         }
     }
 
-    /// Drains leave message `k` out.
+    /// Message `k` waits no more, so that drains leave it out. Nothing changes where no message has this number.
     pub fn leave_out(&mut self, k: u64)
         ensures { self.new ≡ with_numbered self.old k left_out }
     {
@@ -97,35 +98,37 @@ impl Mail {
         }
     }
 
-    /// How many votes to a node that are not granted were delivered after that event.
+    /// How many votes to a node that are not granted were handled after the event `since`. It looks at every message.
     pub fn refusals_since(&self, node: u32, since: u64) -> usize
         ensures { result ≡ count_by (is_refused_since node since) self.now }
     {
         refusals_since(&self.posts, node, since)
     }
 
-    /// Whether a `hold` was delivered at a memory node after that event.
+    /// Whether a `hold` was handled at a memory node after the event `since`. It looks at every message.
     pub fn is_held_since(&self, memory: u32, since: u64) -> bool
         ensures { result ≡ is_heard_since self.now is_hold memory since }
     {
         is_held_since(&self.posts, memory, since)
     }
 
-    /// Whether an `ask`, or a decision of the manager to abort, was delivered at a memory node after that event.
+    /// Whether an `ask`, or a decision of the manager to abort, was handled at a memory node after the event `since`. It
+    /// looks at every message.
     pub fn is_forced_since(&self, memory: u32, since: u64) -> bool
         ensures { result ≡ is_heard_since self.now is_forcing memory since }
     {
         is_forced_since(&self.posts, memory, since)
     }
 
-    /// Whether all that took part in the last attempt of a node before this event voted for it.
+    /// Whether all that took part in a node's last attempt before the event `now` have granted it since. It looks at the
+    /// messages that were posted since that attempt.
     pub fn have_votes(&self, node: u32, now: u64) -> bool
         ensures { result ≡ have_votes self.now node (last_attempt node now self.now) }
     {
         have_votes(&self.posts, node, now)
     }
 
-    /// The least message that waits.
+    /// The least message that waits; `None` exactly where none does. Messages that wait no more are passed over once.
     pub fn least(&mut self) -> Option<u64>
         ensures least { result ≡ least_from 1 self.old }
         ensures same { self.new ≡ self.old }

@@ -1,4 +1,4 @@
-/// An arrival that runs or waits at its node.
+/// An arrival that runs or waits at its node, with what is asked of it.
 #[derive(Clone, Copy, Debug, PartialEq, Eq)]
 pub struct Open {
     pub number: u64,

@@ -55,7 +55,7 @@ impl Said {
         }
     }
 
-    /// One line more.
+    /// One line more. [`NoMemory`]: there is no memory for it, and what is kept is not said.
     pub fn say(&mut self, line: &Line) -> Result<(), NoMemory>
         ensures { (lines : List ALine) → AreSaid lines self.old
             → OnOk result (AreSaid (lines ++ line.now ∷ []) self.new) }
