@@ -1,8 +1,7 @@
 -- What the lines of a transcript tell, read one after another. Nothing here judges a line.
-use Rattle.std.specs.Prelude.{ℕ, zero, suc, ◌+◌, ◌-◌, ◌==◌, Bool, true, false, ◌&&◌, not, if◌then◌else◌, List, [], ◌∷◌, length, slice_get, count_by, Option, Some, None, option_and_then}
+use Rattle.std.specs.Prelude.{ℕ, zero, suc, ◌+◌, ◌-◌, ◌==◌, Bool, true, false, ◌&&◌, not, if◌then◌else◌, List, [], ◌∷◌, length, slice_get, Option, Some, None, option_and_then}
 use Rattle.std.specs.List.{list_any}
 use Rattle.std.specs.Option.{option_map_or}
-use Rattle.nfs_proto.specs.declared.stamp.Stamp.{Stamp}
 use Rattle.fs_rules.specs.declared.plain_tree.PlainTree.{PlainTree}
 use Rattle.mini_tx.specs.declared.actor.Actor.{Actor}
 use Rattle.mini_tx.specs.declared.actor.Actor.TheVariants.{Node, Memory, Manager}
@@ -10,47 +9,10 @@ use Rattle.nfs_service.specs.Reply.{heard, Effect, effect}
 use Rattle.event_text.specs.declared.event.Event.{Event}
 use Rattle.event_text.specs.declared.event.Event.TheVariants as event
 use Rattle.line_text.specs.declared.line.Line.{Line}
-use Rattle.line_text.specs.declared.sent_kind.SentKind.{SentKind}
+use Rattle.transcript_rules.specs.declared.arrival.Arrival.{Arrival}
+use Rattle.transcript_rules.specs.declared.backup.Backup.{Backup}
+use Rattle.transcript_rules.specs.declared.post.Post.{Post}
 use Rattle.transcript_rules.specs.Opening.{Opening}
-
--- ---- what is told of one thing
-
--- how an arrival ended: with a reply, without one, after it failed too often, or because its node was told to give up
-pub data Ended : Type 0 where
-  Replied : Ended
-  Dropped : Ended
-  Retried : Ended
-  GivenUp : Ended
-
--- a datagram that came to a node
-pub record Arrival : Type 0 where
-  pub node : ℕ
-  pub life : ℕ  -- how often its node had gone down before
-  pub moment : Stamp
-  pub bytes : List ℕ
-  pub points : ℕ  -- how many changes stood before it
-  pub under : ℕ  -- the event in which it came
-  pub point : Option ℕ  -- the change that it made, if it made one
-  pub ended : Option Ended
-
--- a message that was posted; message k is the k-th
-pub record Post : Type 0 where
-  pub from : Actor
-  pub to : Actor
-  pub words : SentKind
-  pub under : ℕ  -- the event in which it was posted
-  pub again : Bool  -- that event posts messages again
-
--- a message that its receiver handled
-pub record Delivery : Type 0 where
-  pub message : ℕ
-  pub under : ℕ
-
--- a backup; backup B is the B-th
-pub record Backup : Type 0 where
-  pub cut : Option ℕ  -- how many changes its cut has
-  pub done : Bool
-  pub over : Bool  -- it is done, or ended before
 
 -- all that is told
 pub record Book : Type 0 where
@@ -59,15 +21,11 @@ pub record Book : Type 0 where
   pub now : Option Event  -- the event whose lines stand last; a drain is spelled out as deliveries
   pub under : ℕ  -- how many events there were
   pub said : List Line  -- the lines under this event so far
-  pub arrivals : List Arrival
+  pub arrivals : List Arrival  -- arrival A is the A-th
   pub trees : List PlainTree  -- the opening tree, and the tree after each change
-  pub posts : List Post
-  pub handed : List ℕ  -- the messages that were delivered, to whom is up and to whom is not
-  pub deliveries : List Delivery
-  pub left_out : List ℕ  -- the messages that drains leave out
+  pub posts : List Post  -- message k is the k-th
   pub down : List Actor  -- who is down
-  pub falls : List Actor  -- who went down, each time
-  pub backups : List Backup
+  pub backups : List Backup  -- backup B is the B-th
   pub owed : List (List ℕ)  -- the lines of a listing that are still to come
   pub closed : Bool  -- the last line stands
 
@@ -82,11 +40,7 @@ opened o = record {
   arrivals = [];
   trees = o.tree ∷ [];
   posts = [];
-  handed = [];
-  deliveries = [];
-  left_out = [];
   down = o.down;
-  falls = o.down;
   backups = [];
   owed = [];
   closed = false;
@@ -117,10 +71,6 @@ is_actor other another = false
 abbrev pub is_up : Book → Actor → Bool
 is_up book who = not (list_any (is_actor who) book.down)
 
--- how often it went down
-abbrev pub life_of : Book → Actor → ℕ
-life_of book who = count_by (is_actor who) book.falls
-
 -- how many changes there are, and the tree behind the last
 abbrev pub points_of : Book → ℕ
 points_of book = length book.trees - 1
@@ -128,18 +78,18 @@ points_of book = length book.trees - 1
 abbrev pub tree_at : Book → ℕ → Option PlainTree
 tree_at book p = slice_get book.trees p
 
--- an arrival came in the life that its node has now, and has not ended
-abbrev pub is_open : Book → ℕ → Arrival → Bool
-is_open book n a = (a.node == n) && (a.life == life_of book (Node n)) && option_map_or (λ e. false) a.ended true
+-- an arrival came to a node, and runs or waits there: it has not ended, and its node did not go down since
+abbrev pub is_open : ℕ → Arrival → Bool
+is_open n a = (a.node == n) && option_map_or (λ e. false) a.ended true
 
 -- the first of some arrivals that is open, by its number
-unfoldable pub first_open : Book → ℕ → ℕ → List Arrival → Option ℕ
-first_open book n k [] = None
-first_open book n k (a ∷ rest) = if is_open book n a then Some k else first_open book n (k + 1) rest
+unfoldable pub first_open : ℕ → ℕ → List Arrival → Option ℕ
+first_open n k [] = None
+first_open n k (a ∷ rest) = if is_open n a then Some k else first_open n (k + 1) rest
 
 -- the arrival that runs at a node: the earliest that is open
 abbrev pub running_at : Book → ℕ → Option ℕ
-running_at book n = first_open book n 1 book.arrivals
+running_at book n = first_open n 1 book.arrivals
 
 -- what an arrival is answered in a tree: a new file's number is searched from the memory node with the arrival's number on
 abbrev pub response : Arrival → ℕ → PlainTree → Option Effect

@@ -1,7 +1,7 @@
 -- Carried: each change and each reply rests on messages that were delivered.
 use Rattle.std.specs.Prelude.{◌≡◌, ℕ, ◌<◌, ◌==◌, nat_lt, Bool, true, false, ◌&&◌, not, if◌then◌else◌, List, [], ◌∷◌, Option, Some, None, ◌⊎◌}
 use Rattle.std.specs.List.{list_any, list_all}
-use Rattle.std.specs.Option.{option_map_or}
+use Rattle.std.specs.Option.{option_map_or, option_or}
 use Rattle.mini_tx.specs.declared.actor.Actor.{Actor}
 use Rattle.mini_tx.specs.declared.actor.Actor.TheVariants.{Node, Memory}
 use Rattle.nfs_service.specs.Reply.{heard}
@@ -12,8 +12,10 @@ use Rattle.line_text.specs.declared.line.Line.{Line}
 use Rattle.line_text.specs.declared.line.Line.TheVariants as line
 use Rattle.line_text.specs.declared.sent_kind.SentKind.{SentKind}
 use Rattle.line_text.specs.declared.sent_kind.SentKind.TheVariants as sent
+use Rattle.transcript_rules.specs.declared.arrival.Arrival.{Arrival}
+use Rattle.transcript_rules.specs.declared.post.Post.{Post}
 use Rattle.transcript_rules.specs.Opening.{Opening}
-use Rattle.transcript_rules.specs.Book.{Book, Arrival, Post, numbered, is_actor, handled_now}
+use Rattle.transcript_rules.specs.Book.{Book, numbered, is_actor, is_up, handled_now}
 
 -- ---- what kind of message or event it is
 
@@ -42,32 +44,42 @@ pub record RestsOnVote (book : Book) (a : Arrival) : Type 0 where
   pub granted : p.words ≡ sent.VoteOk
   pub after : a.under < p.under
 
+-- the last of some messages that passes a test
+unfoldable pub last_of : (Post → Bool) → List Post → Option Post
+last_of f [] = None
+last_of f (p ∷ rest) = option_or (last_of f rest) (if f p then Some p else None)
+
+-- a prepare that a node posted before an event, and did not post again
+abbrev pub is_attempt : ℕ → ℕ → Post → Bool
+is_attempt n now p = is_actor p.from (Node n) && is_prepare p.words && nat_lt p.under now && not p.again
+
 -- the last event before this one, posts of repeated messages aside, in which a node posted a prepare
-unfoldable pub last_attempt : ℕ → ℕ → List Post → ℕ
-last_attempt n now [] = 0
-last_attempt n now (p ∷ rest) =
-    let behind = last_attempt n now rest in
-    if is_actor p.from (Node n) && is_prepare p.words && nat_lt p.under now && not p.again && nat_lt behind p.under then p.under else behind
+abbrev pub last_attempt : ℕ → ℕ → List Post → ℕ
+last_attempt n now posts = option_map_or (λ p. p.under) (last_of (is_attempt n now) posts) 0
 
 -- a granted vote of this memory node to the node was posted after that event, and delivered after it
-abbrev pub has_vote : Book → ℕ → Actor → ℕ → Bool
-has_vote book n memory e =
-    list_any (λ d. nat_lt e d.under && option_map_or (λ v. is_actor v.from memory && is_actor v.to (Node n) && is_granted v.words && nat_lt e v.under) (numbered book.posts d.message) false) book.deliveries
+abbrev pub is_vote : ℕ → Actor → ℕ → Post → Bool
+is_vote n memory e v = is_actor v.from memory && is_actor v.to (Node n) && is_granted v.words && nat_lt e v.under && nat_lt e v.heard
+
+abbrev pub has_vote : List Post → ℕ → Actor → ℕ → Bool
+has_vote posts n memory e = list_any (is_vote n memory e) posts
 
 -- from every memory node to which the node posted one in that event
-abbrev pub have_votes : Book → ℕ → ℕ → Bool
-have_votes book n e =
-    list_all (λ p. if is_actor p.from (Node n) && is_prepare p.words && (p.under == e) then has_vote book n p.to e else true) book.posts
+abbrev pub is_part : ℕ → ℕ → Post → Bool
+is_part n e p = is_actor p.from (Node n) && is_prepare p.words && (p.under == e)
+
+abbrev pub have_votes : List Post → ℕ → ℕ → Bool
+have_votes posts n e = list_all (λ p. if is_part n e p then has_vote posts n p.to e else true) posts
 
 -- an arrival that made a change is answered only where all took part in its last attempt
 pub record RestsOnAll (book : Book) (a : Arrival) : Type 0 where
-  pub all : (point : ℕ) → a.point ≡ Some point → have_votes book a.node (last_attempt a.node book.under book.posts) ≡ true
+  pub all : (point : ℕ) → a.point ≡ Some point → have_votes book.posts a.node (last_attempt a.node book.under book.posts) ≡ true
 
--- `reply A ..`: in A's own event exactly where no file system is needed
+-- `reply A ..`: of a node that is up, and in A's own event exactly where no file system is needed
 pub record IsCarriedReply (o : Opening) (book : Book) (arrival : ℕ) : Type 0 where
   pub a : Arrival
   pub came : numbered book.arrivals arrival ≡ Some a
-  pub at_once : a.under ≡ book.under → needs_files o.geometry (heard a.bytes) ≡ false
+  pub at_once : a.under ≡ book.under → (is_up book (Node a.node) ≡ true) × (needs_files o.geometry (heard a.bytes) ≡ false)
   pub later : a.under < book.under → (needs_files o.geometry (heard a.bytes) ≡ true) × RestsOnVote book a
   pub whole : RestsOnAll book a
 

@@ -1,7 +1,6 @@
 -- Cause: why an arrival or a backup ends without what was asked for.
-use Rattle.std.specs.Prelude.{◌≡◌, ℕ, ◌+◌, ◌≤◌, ◌==◌, nat_lt, Bool, true, false, ◌&&◌, if◌then◌else◌, List, [], ◌∷◌, count_by, Some, ◌⊎◌}
+use Rattle.std.specs.Prelude.{◌≡◌, ℕ, ◌+◌, ◌≤◌, nat_lt, Bool, true, false, ◌&&◌, List, count_by, Some, ◌⊎◌}
 use Rattle.std.specs.List.{list_any}
-use Rattle.std.specs.Option.{option_map_or}
 use Rattle.mini_tx.specs.declared.actor.Actor.TheVariants.{Node, Memory, Manager}
 use Rattle.nfs_service.specs.declared.request.Request.TheVariants as request
 use Rattle.nfs_service.specs.Reply.{heard}
@@ -16,8 +15,10 @@ use Rattle.line_text.specs.declared.retry_why.RetryWhy.{RetryWhy}
 use Rattle.line_text.specs.declared.retry_why.RetryWhy.TheVariants as retry
 use Rattle.line_text.specs.declared.sent_kind.SentKind.{SentKind}
 use Rattle.line_text.specs.declared.sent_kind.SentKind.TheVariants as sent
+use Rattle.transcript_rules.specs.declared.arrival.Arrival.{Arrival}
+use Rattle.transcript_rules.specs.declared.post.Post.{Post}
 use Rattle.transcript_rules.specs.Opening.{Opening}
-use Rattle.transcript_rules.specs.Book.{Book, Arrival, Post, numbered, is_actor, is_open, is_up, handled_now, running_at}
+use Rattle.transcript_rules.specs.Book.{Book, numbered, is_actor, is_open, is_up, handled_now, running_at}
 use Rattle.transcript_rules.specs.Carried.{needs_files}
 
 -- how often an arrival may fail, the last one with it
@@ -38,22 +39,16 @@ is_refusal sent.VoteForced = true
 is_refusal sent.VoteHeld = true
 is_refusal other = false
 
--- the message with this number was delivered in or after the event
-abbrev pub is_delivered_since : Book → ℕ → ℕ → Bool
-is_delivered_since book k since = list_any (λ d. (d.message == k) && nat_lt since d.under) book.deliveries
+-- how many messages are votes to a node that are not granted and were delivered after that event
+abbrev pub is_refused_since : ℕ → ℕ → Post → Bool
+is_refused_since n since p = is_actor p.to (Node n) && is_refusal p.words && nat_lt since p.heard
 
--- how many of some messages, the first of which has the number k, are votes to a node that are not granted and were delivered after
--- that event
-unfoldable pub refusals_since : Book → ℕ → ℕ → ℕ → List Post → ℕ
-refusals_since book n since k [] = 0
-refusals_since book n since k (p ∷ rest) =
-    let behind = refusals_since book n since (k + 1) rest in
-    if is_actor p.to (Node n) && is_refusal p.words && is_delivered_since book k since then behind + 1 else behind
+abbrev pub refusals_since : List Post → ℕ → ℕ → ℕ
+refusals_since posts n since = count_by (is_refused_since n since) posts
 
 -- a message of this kind was delivered at a memory node after that event
-abbrev pub is_heard_since : Book → (Post → Bool) → ℕ → ℕ → Bool
-is_heard_since book kind m since =
-    list_any (λ d. nat_lt since d.under && option_map_or (λ p. is_actor p.to (Memory m) && kind p) (numbered book.posts d.message) false) book.deliveries
+abbrev pub is_heard_since : List Post → (Post → Bool) → ℕ → ℕ → Bool
+is_heard_since posts kind m since = list_any (λ p. is_actor p.to (Memory m) && kind p && nat_lt since p.heard) posts
 
 abbrev pub is_hold_word : SentKind → Bool
 is_hold_word sent.Hold = true
@@ -79,17 +74,17 @@ pub record IsEighth (book : Book) (a : Arrival) (m : ℕ) (vote : SentKind) : Ty
   pub from : p.from ≡ Memory m
   pub to : p.to ≡ Node a.node
   pub vote_is : p.words ≡ vote
-  pub others : most_failures ≤ refusals_since book a.node a.under 1 book.posts
+  pub others : most_failures ≤ refusals_since book.posts a.node a.under
 
 -- ---- arrivals that end without a reply after they ran
 
 -- of a vote that finds its memory node held, a `hold` was delivered there before
 pub record WasHeld (book : Book) (m : ℕ) : Type 0 where
-  pub held : is_heard_since book is_hold m 0 ≡ true
+  pub held : is_heard_since book.posts is_hold m 0 ≡ true
 
 -- of a vote that was forced, an `ask` or a decision of the manager to abort was delivered there since the arrival came
 pub record WasForced (book : Book) (a : Arrival) (m : ℕ) : Type 0 where
-  pub forced : is_heard_since book is_forcing m a.under ≡ true
+  pub forced : is_heard_since book.posts is_forcing m a.under ≡ true
 
 -- the node is told to give up what it runs
 pub record IsGivenUp (book : Book) (arrival : ℕ) (a : Arrival) : Type 0 where
@@ -105,9 +100,13 @@ HasRetryCause book arrival a retry.Unreached = IsGivenUp book arrival a
 
 -- ---- arrivals that are dropped in their own event, by the first rule that fits
 
--- how many others of this life of the node have not ended
+-- an arrival runs or waits at a node and came before an event
+abbrev pub is_open_before : ℕ → ℕ → Arrival → Bool
+is_open_before n now a = is_open n a && nat_lt a.under now
+
+-- how many others run or wait at the node
 abbrev pub others_open : Book → ℕ → ℕ
-others_open book n = count_by (λ a. is_open book n a && nat_lt a.under book.under) book.arrivals
+others_open book n = count_by (is_open_before n book.under) book.arrivals
 
 -- its node is up
 pub record IsMet (book : Book) (a : Arrival) : Type 0 where

@@ -1,5 +1,5 @@
 -- Which event comes next by the schedule, and what one line more makes of the book.
-use Rattle.std.specs.Prelude.{ℕ, ◌+◌, ◌-◌, ◌^◌, ◌==◌, nat_lt, nat_le, Bool, true, false, ◌&&◌, ◌||◌, not, if◌then◌else◌, List, [], ◌∷◌, ◌++◌, length, drop, Option, Some, None, option_and_then, is_some}
+use Rattle.std.specs.Prelude.{ℕ, ◌+◌, ◌-◌, ◌^◌, nat_lt, nat_le, Bool, true, false, ◌&&◌, not, if◌then◌else◌, List, [], ◌∷◌, ◌++◌, length, map, drop, Option, Some, None, option_and_then, is_some}
 use Rattle.std.specs.List.{list_any}
 use Rattle.std.specs.Option.{option_map_or}
 use Rattle.fs_rules.specs.declared.geometry.Geometry.{Geometry}
@@ -12,8 +12,13 @@ use Rattle.line_text.specs.declared.line.Line.{Line}
 use Rattle.line_text.specs.declared.line.Line.TheVariants as line
 use Rattle.line_text.specs.declared.retry_why.RetryWhy.{RetryWhy}
 use Rattle.line_text.specs.declared.retry_why.RetryWhy.TheVariants as retry
+use Rattle.transcript_rules.specs.declared.arrival.Arrival.{Arrival}
+use Rattle.transcript_rules.specs.declared.backup.Backup.{Backup}
+use Rattle.transcript_rules.specs.declared.ended.Ended.{Ended}
+use Rattle.transcript_rules.specs.declared.ended.Ended.TheVariants.{Replied, Dropped, Retried, GivenUp, Lost}
+use Rattle.transcript_rules.specs.declared.post.Post.{Post}
 use Rattle.transcript_rules.specs.Opening.{Opening, Schedule}
-use Rattle.transcript_rules.specs.Book.{Book, Ended, Replied, Dropped, Retried, GivenUp, Post, Backup, numbered, with_numbered, is_actor, is_up, life_of, points_of, tree_at, running_at, response, running_backup}
+use Rattle.transcript_rules.specs.Book.{Book, numbered, with_numbered, is_actor, is_up, is_open, points_of, tree_at, running_at, response, running_backup}
 
 -- ---- whether an event may come
 
@@ -68,13 +73,13 @@ may_come g book event.End = true
 
 -- ---- the next event
 
--- the least message from the k-th on that was neither delivered nor left out
-unfoldable pub least_from : Book → ℕ → List Post → Option ℕ
-least_from book k [] = None
-least_from book k (p ∷ rest) = if list_any (λ x. x == k) book.handed || list_any (λ x. x == k) book.left_out then least_from book (k + 1) rest else Some k
+-- the least message from the k-th on that waits
+unfoldable pub least_from : ℕ → List Post → Option ℕ
+least_from k [] = None
+least_from k (p ∷ rest) = if p.waits then Some k else least_from (k + 1) rest
 
 abbrev pub least_undelivered : Book → Option ℕ
-least_undelivered book = least_from book 1 book.posts
+least_undelivered book = least_from 1 book.posts
 
 -- the next event, and what is used up of the schedule with it; no event where the next line is refused
 pub record Next : Type 0 where
@@ -115,16 +120,28 @@ backups_without (Node n) backups = backups
 backups_without (Memory m) backups = backups
 backups_without Manager backups = with_numbered backups (length backups) (λ b. record b { over = true })
 
+-- what a node was asked is lost with it
+abbrev pub lost_at : ℕ → Arrival → Arrival
+lost_at n a = if is_open n a then record a { ended = Some Lost } else a
+
+abbrev pub arrivals_without : Actor → List Arrival → List Arrival
+arrivals_without (Node n) arrivals = map (lost_at n) arrivals
+arrivals_without (Memory m) arrivals = arrivals
+arrivals_without Manager arrivals = arrivals
+
 abbrev pub fallen : Book → Actor → Book
-fallen book who = record book { down = who ∷ without who book.down; falls = who ∷ book.falls; backups = backups_without who book.backups }
+fallen book who = record book { down = who ∷ without who book.down; arrivals = arrivals_without who book.arrivals; backups = backups_without who book.backups }
 
 -- a message is delivered: it is handled where its receiver is up
-abbrev pub handed_on : Book → ℕ → Option Post → Book
-handed_on book k None = book
-handed_on book k (Some p) =
-    if is_up book p.to
-    then record book { handed = book.handed ++ k ∷ []; deliveries = book.deliveries ++ (record { message = k; under = book.under }) ∷ [] }
-    else record book { handed = book.handed ++ k ∷ [] }
+abbrev pub handed_on : ℕ → Bool → Post → Post
+handed_on under up p = record p { waits = false; heard = if up then under else p.heard }
+
+abbrev pub handed_among : List Actor → ℕ → Post → Post
+handed_among down under p = handed_on under (not (list_any (is_actor p.to) down)) p
+
+-- drains leave it out
+abbrev pub left_out : Post → Post
+left_out p = record p { waits = false }
 
 -- what an event does by itself
 unfoldable pub begun : Book → Event → Book
@@ -132,7 +149,6 @@ begun book (event.Arrive node sec usec bytes) =
     record book {
       arrivals = book.arrivals ++ (record {
         node = node;
-        life = life_of book (Node node);
         moment = record { sec = sec; usec = usec };
         bytes = bytes;
         points = points_of book;
@@ -141,8 +157,8 @@ begun book (event.Arrive node sec usec bytes) =
         ended = None;
       }) ∷ [];
     }
-begun book (event.Deliver k stop) = handed_on book k (numbered book.posts k)
-begun book (event.Lose k) = record book { left_out = book.left_out ++ k ∷ [] }
+begun book (event.Deliver k stop) = record book { posts = with_numbered book.posts k (handed_among book.down book.under) }
+begun book (event.Lose k) = record book { posts = with_numbered book.posts k left_out }
 begun book (event.Crash who) = fallen book who
 begun book (event.Start who choice) = record book { down = without who book.down }
 begun book event.Backup = record book { backups = book.backups ++ (record { cut = None; done = false; over = false }) ∷ [] }
@@ -153,8 +169,15 @@ abbrev pub with_next : Book → Next → Book
 with_next book n = option_map_or (λ e. begun (record book { taken = n.taken; drained = n.drained; now = Some e; under = book.under + 1; said = [] }) e) n.comes book
 
 -- an arrival ends
+abbrev pub with_end : Ended → Arrival → Arrival
+with_end how a = record a { ended = Some how }
+
+-- it made this change
+abbrev pub with_point : ℕ → Arrival → Arrival
+with_point point a = record a { point = Some point }
+
 abbrev pub ended_as : Book → ℕ → Ended → Book
-ended_as book number how = record book { arrivals = with_numbered book.arrivals number (λ a. record a { ended = Some how }) }
+ended_as book number how = record book { arrivals = with_numbered book.arrivals number (with_end how) }
 
 -- how an arrival ends that has no reply after it ran
 abbrev pub retried_as : RetryWhy → Ended
@@ -164,7 +187,7 @@ retried_as other = Retried
 -- a change: the tree that the arrival's call makes of the last one
 abbrev pub changed : Book → ℕ → ℕ → Book
 changed book point number =
-    option_map_or (λ e. record book { trees = book.trees ++ e.tree ∷ []; arrivals = with_numbered book.arrivals number (λ a. record a { point = Some point }) })
+    option_map_or (λ e. record book { trees = book.trees ++ e.tree ∷ []; arrivals = with_numbered book.arrivals number (with_point point) })
     (option_and_then (λ a. option_and_then (response a number) (tree_at book (points_of book))) (numbered book.arrivals number)) book
 
 -- the lines of a listing of the tree of a backup
@@ -181,7 +204,7 @@ unfoldable pub told : Book → Line → Book
 told book (line.Down who why) = fallen book who
 told book (line.Point point arrival made) = changed book point arrival
 told book (line.Sent k from to words) =
-    record book { posts = book.posts ++ (record { from = from; to = to; words = words; under = book.under; again = is_resend book.now }) ∷ [] }
+    record book { posts = book.posts ++ (record { from = from; to = to; words = words; under = book.under; again = is_resend book.now; waits = true; heard = 0 }) ∷ [] }
 told book (line.Reply arrival at bytes) = ended_as book arrival Replied
 told book (line.Retry arrival why) = ended_as book arrival (retried_as why)
 told book (line.Dropped arrival why) = ended_as book arrival Dropped

@@ -1,5 +1,5 @@
 -- Place: which lines stand under which events, and in which order.
-use Rattle.std.specs.Prelude.{◌≡◌, ◌≢◌, ℕ, ◌+◌, nat_lt, nat_le, Bool, true, false, ◌&&◌, ◌||◌, not, if◌then◌else◌, List, [], length, Option, Some, None, is_some}
+use Rattle.std.specs.Prelude.{◌≡◌, ◌≢◌, ℕ, ◌+◌, nat_lt, nat_le, Bool, true, false, ◌&&◌, ◌||◌, not, if◌then◌else◌, List, [], length, Option, Some, None}
 use Rattle.std.specs.List.{list_any, list_all}
 use Rattle.std.specs.Option.{option_map_or}
 use Rattle.mini_tx.specs.declared.actor.Actor.{Actor}
@@ -11,9 +11,12 @@ use Rattle.line_text.specs.declared.line.Line.{Line}
 use Rattle.line_text.specs.declared.line.Line.TheVariants as line
 use Rattle.line_text.specs.declared.sent_kind.SentKind.{SentKind}
 use Rattle.line_text.specs.declared.sent_kind.SentKind.TheVariants as sent
+use Rattle.transcript_rules.specs.declared.ended.Ended.{Ended}
+use Rattle.transcript_rules.specs.declared.ended.Ended.TheVariants.{Replied, Dropped, Retried, GivenUp, Lost}
+use Rattle.transcript_rules.specs.declared.post.Post.{Post}
 use Rattle.transcript_rules.specs.Opening.{Opening, Schedule}
-use Rattle.transcript_rules.specs.Book.{Book, Post, numbered, is_actor, is_up, delivered_now, handled_now}
-use Rattle.transcript_rules.specs.Next.{next, is_memory}
+use Rattle.transcript_rules.specs.Book.{Book, numbered, is_actor, is_up, delivered_now, handled_now}
+use Rattle.transcript_rules.specs.Next.{next, is_memory, is_there}
 use Rattle.transcript_rules.specs.Truth.{is_mounting_line}
 use Rattle.transcript_rules.specs.Carried.{needs_files, is_granted}
 use Rattle.transcript_rules.specs.Cause.{others_open, most_waiting, is_refusal}
@@ -98,9 +101,11 @@ IsSentBy book (Node n) words = list_any is_sent_by_memory book.said ≡ false
 IsSentBy book (Memory m) words = IsAnswer book m words
 IsSentBy book Manager words = list_any is_sent_by_memory book.said ≡ false
 
--- `sent K FROM TO WORDS`: messages are numbered from 1 without gaps
-pub record IsPosting (book : Book) (k : ℕ) (from : Actor) (words : SentKind) : Type 0 where
+-- `sent K FROM TO WORDS`: messages are numbered from 1 without gaps, and go from one actor of the cluster to another
+pub record IsPosting (o : Opening) (book : Book) (k : ℕ) (from to : Actor) (words : SentKind) : Type 0 where
   pub number : k ≡ length book.posts + 1
+  pub from_is_there : is_there o.geometry from ≡ true
+  pub to_is_there : is_there o.geometry to ≡ true
   pub sender : IsSentBy book from words
 
 -- `lost K`: the event delivers K, and its receiver is down; it stands once
@@ -113,9 +118,18 @@ pub record IsLoss (book : Book) (k : ℕ) : Type 0 where
 
 -- ---- what has to stand under an event
 
--- the last arrival has ended
+-- it is told how an arrival ended: what is lost with a node has no line
+abbrev pub is_told : Option Ended → Bool
+is_told None = false
+is_told (Some Lost) = false
+is_told (Some GivenUp) = true
+is_told (Some Replied) = true
+is_told (Some Dropped) = true
+is_told (Some Retried) = true
+
+-- of the last arrival
 abbrev pub last_ended : Book → Bool
-last_ended book = option_map_or (λ a. is_some a.ended) (numbered book.arrivals (length book.arrivals)) true
+last_ended book = option_map_or (λ a. is_told a.ended) (numbered book.arrivals (length book.arrivals)) true
 
 -- something ends an arrival at once: its node is down, its bytes are silence, its answer needs no file system, or too many wait
 abbrev pub ends_at_once : Opening → Book → Bool
@@ -188,8 +202,9 @@ pub record Refuses (o : Opening) (schedule : Schedule) (book : Book) (number : �
 abbrev pub HasItsPlace : Opening → Schedule → Book → Line → Type 0
 HasItsPlace o schedule book (line.DoArrive arrival node) = BeginsArrival o schedule book arrival node
 HasItsPlace o schedule book (line.DoEvent e) = BeginsEvent o schedule book e
+HasItsPlace o schedule book (line.Down who why) = IsUnder book (line.Down who why) × (is_there o.geometry who ≡ true)
 HasItsPlace o schedule book (line.Lost k) = IsUnder book (line.Lost k) × IsLoss book k
-HasItsPlace o schedule book (line.Sent k from to words) = IsUnder book (line.Sent k from to words) × IsPosting book k from words
+HasItsPlace o schedule book (line.Sent k from to words) = IsUnder book (line.Sent k from to words) × IsPosting o book k from to words
 HasItsPlace o schedule book (line.Refused number) = Refuses o schedule book number
 HasItsPlace o schedule book line.End = Ends o schedule book
 HasItsPlace o schedule book other = IsUnder book other

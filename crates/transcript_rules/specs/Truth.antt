@@ -2,7 +2,6 @@
 use Rattle.std.specs.Prelude.{◌≡◌, ◌≢◌, ℕ, ◌+◌, ◌-◌, ◌≤◌, ◌<◌, Bool, true, false, List, [], ◌∷◌, length, Option, Some, None}
 use Rattle.std.specs.List.{list_any}
 use Rattle.fs_rules.specs.declared.plain_tree.PlainTree.{PlainTree}
-use Rattle.mini_tx.specs.declared.actor.Actor.TheVariants.{Node}
 use Rattle.nfs_service.specs.Reply.{Effect}
 use Rattle.event_text.specs.declared.event.Event.TheVariants as event
 use Rattle.line_text.specs.declared.drop_why.DropWhy.{DropWhy}
@@ -10,13 +9,30 @@ use Rattle.line_text.specs.declared.drop_why.DropWhy.TheVariants as drop
 use Rattle.line_text.specs.declared.down_why.DownWhy.TheVariants as down
 use Rattle.line_text.specs.declared.line.Line.{Line}
 use Rattle.line_text.specs.declared.line.Line.TheVariants as line
-use Rattle.transcript_rules.specs.Book.{Book, Arrival, Ended, GivenUp, Backup, numbered, points_of, tree_at, response, life_of, running_at, running_backup}
+use Rattle.transcript_rules.specs.declared.arrival.Arrival.{Arrival}
+use Rattle.transcript_rules.specs.declared.backup.Backup.{Backup}
+use Rattle.transcript_rules.specs.declared.ended.Ended.{Ended}
+use Rattle.transcript_rules.specs.declared.ended.Ended.TheVariants.{Replied, Dropped, Retried, GivenUp, Lost}
+use Rattle.transcript_rules.specs.Book.{Book, numbered, points_of, tree_at, response, running_at, running_backup}
 use Rattle.transcript_rules.specs.Next.{listing_of}
 
--- the arrival has not ended, or its node was told to give it up
-pub data MayChange : Option Ended → Type 0 where
-  runs : MayChange None
-  given_up : MayChange (Some GivenUp)
+-- a change may come of an arrival that has not ended, or that was given up or lost with its node
+abbrev pub may_change : Option Ended → Bool
+may_change None = true
+may_change (Some GivenUp) = true
+may_change (Some Lost) = true
+may_change (Some Replied) = false
+may_change (Some Dropped) = false
+may_change (Some Retried) = false
+
+-- an arrival may be dropped that has not ended, also where its node is down
+abbrev pub may_drop : Option Ended → Bool
+may_drop None = true
+may_drop (Some Lost) = true
+may_drop (Some GivenUp) = false
+may_drop (Some Replied) = false
+may_drop (Some Dropped) = false
+may_drop (Some Retried) = false
 
 -- `point P arrival A made F G`: it is the next change; A came, has made none before, and has no reply and was not dropped or
 -- tried too often; what its call is answered in the last tree changes that tree, and makes this file
@@ -25,7 +41,7 @@ pub record IsTruePoint (book : Book) (point arrival : ℕ) (made : Option (ℕ �
   pub a : Arrival
   pub came : numbered book.arrivals arrival ≡ Some a
   pub first : a.point ≡ None
-  pub may : MayChange a.ended
+  pub may : may_change a.ended ≡ true
   pub tree : PlainTree
   pub last : tree_at book (points_of book) ≡ Some tree
   pub e : Effect
@@ -53,7 +69,6 @@ pub record IsOpen (book : Book) (arrival : ℕ) (a : Arrival) : Type 0 where
 pub record IsTrueReply (book : Book) (arrival at : ℕ) (bytes : List ℕ) : Type 0 where
   pub a : Arrival
   pub runs : IsOpen book arrival a
-  pub life : a.life ≡ life_of book (Node a.node)
   pub order : EndsInOrder book arrival a
   pub tree : PlainTree
   pub e : Effect
@@ -65,13 +80,13 @@ pub record IsTrueReply (book : Book) (arrival at : ℕ) (bytes : List ℕ) : Typ
 pub record IsTrueRetry (book : Book) (arrival : ℕ) : Type 0 where
   pub a : Arrival
   pub runs : IsOpen book arrival a
-  pub life : a.life ≡ life_of book (Node a.node)
   pub order : EndsInOrder book arrival a
 
--- `dropped A ..`: A has not ended; bytes of a memory that stands for a tree are never damaged
+-- `dropped A ..`: A may be dropped; bytes of a memory that stands for a tree are never damaged
 pub record IsTrueDrop (book : Book) (arrival : ℕ) (why : DropWhy) : Type 0 where
   pub a : Arrival
-  pub runs : IsOpen book arrival a
+  pub came : numbered book.arrivals arrival ≡ Some a
+  pub may : may_drop a.ended ≡ true
   pub whole : (memory at : ℕ) → why ≡ drop.Damaged memory at → ⊥
 
 -- `cut B at P`: P is the number of changes so far; B is the backup that runs, and has no cut yet

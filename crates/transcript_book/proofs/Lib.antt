@@ -1,0 +1,4 @@
+pub mod PostLemmas
+pub mod VoteLemmas
+pub mod OpenLemmas
+pub mod SaidLemmas
