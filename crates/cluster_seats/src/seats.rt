@@ -33,6 +33,13 @@ impl Seats {
         Ok(())
     }
 
+    /// How many nodes there are. It takes no memory.
+    pub fn len(&self) -> usize
+        ensures { result ≡ length (nodes_in self.now) }
+    {
+        self.nodes.len()
+    }
+
     /// What a node is at. It takes no memory.
     pub fn state(&self, n: u32) -> &TxState
         requires { n < length (nodes_in self.now) }
