@@ -13,10 +13,11 @@ use Rattle.node_rules.specs.declared.attempt.Attempt.TheVariants as attempt
 use Rattle.node_rules.specs.declared.node_state.NodeState.{NodeState}
 use Rattle.node_rules.specs.declared.output.Output.{Output}
 use Rattle.node_rules.specs.declared.output.Output.TheVariants as output
+use Rattle.node_rules.specs.declared.plan.Plan.{Plan}
 use Rattle.node_rules.specs.declared.plan.Plan.TheVariants as plan
 use Rattle.node_rules.specs.declared.running.Running.{Running}
 use Rattle.node_rules.specs.declared.running.Work.{Work}
-use Rattle.node_rules.specs.Plans.{Plans}
+use Rattle.node_rules.specs.Plans.{Plans, want_of}
 use Rattle.node_rules.specs.Stock.{Stock, empty_held, gathered, wanted_by}
 
 -- an item that writes maps: they lie in the second page
@@ -35,12 +36,16 @@ pub record Begun (F : Type 0) : Type 0 where
   pub made : Option (ℕ × ℕ)
   pub attempt : Attempt F
 
--- of an arrival that has this work set: the fetch of the part that it wants, or its final where it wants none
-pub data Begins {F : Type 0} (plans : Plans F) (held : Held) (a : Arrival) : Begun F → Type 0 where
-  fetch : (w : Want) → wanted_by a held ≡ Some w → Begins plans held a (record { items = fetched held w; made = None; attempt = attempt.Fetch w })
-  final : (items : List Item) (answer : F) (made : Option (ℕ × ℕ)) (changed : List ℕ) → wanted_by a held ≡ None
-      → plans held a.call a.cred a.now a.id (plan.Final items answer made changed)
-      → Begins plans held a (record { items = items; made = made; attempt = attempt.Final (record { answer = answer; changed = changed; written = written items }) })
+-- by a plan over this work set: the fetch of the part that is needed, or the final
+abbrev pub begun_by : {F : Type 0} → Held → Plan F → Begun F
+begun_by held (plan.Need w) = record { items = fetched held w; made = None; attempt = attempt.Fetch w }
+begun_by held (plan.Final items answer made changed) =
+    record { items = items; made = made; attempt = attempt.Final (record { answer = answer; changed = changed; written = written items }) }
+
+-- it is planned for an arrival that has this work set: what it needs is what the arrival wants next
+pub record IsPlanned {F : Type 0} (plans : Plans F) (a : Arrival) (held : Held) (p : Plan F) : Type 0 where
+  pub needs : want_of p ≡ wanted_by a held
+  pub planned : plans held a.call a.cred a.now a.id p
 
 -- what an arrival can use
 abbrev pub stock_of : {F : Type 0} → NodeState F → Work → Stock
@@ -50,15 +55,23 @@ stock_of node work = record { held = work.held; cache = node.cache }
 abbrev pub running_with : {F : Type 0} → Work → Held → Begun F → Running F
 running_with work held b = record { work = record work { held = held }; attempt = b.attempt; places = map place_of b.items }
 
--- an arrival goes on: what it wants is moved from the cache, and then a minitransaction is begun for it
+-- what it can use once all that it wants and the cache has was moved
+abbrev pub stock_after : {F : Type 0} → NodeState F → Work → Stock
+stock_after node work = gathered work.arrival (stock_of node work)
+
+-- what the caller is to begin
+abbrev pub begun_output : {F : Type 0} → ℕ → Begun F → Output
+begun_output id b = output.Start id b.items b.made
+
+-- an arrival goes on: what it wants is moved from the cache, and then what is planned is begun for it
 pub record IsStarted {F : Type 0} (plans : Plans F) (node : NodeState F) (work : Work) (new : NodeState F) (o : Output) : Type 0 where
-  pub begun : Begun F
-  pub begins : Begins plans (gathered work.arrival (stock_of node work)).held work.arrival begun
+  pub plan : Plan F
+  pub planned : IsPlanned plans work.arrival (stock_after node work).held plan
   pub new_is : new ≡ record node {
-    cache = (gathered work.arrival (stock_of node work)).cache;
-    running = Some (running_with work (gathered work.arrival (stock_of node work)).held begun);
+    cache = (stock_after node work).cache;
+    running = Some (running_with work (stock_after node work).held (begun_by (stock_after node work).held plan));
   }
-  pub output_is : o ≡ output.Start work.arrival.id begun.items begun.made
+  pub output_is : o ≡ begun_output work.arrival.id (begun_by (stock_after node work).held plan)
 
 -- an arrival as it starts
 abbrev pub fresh : Geometry → Arrival → Work

@@ -1,5 +1,6 @@
 -- A node in order: what it has fits together, at each moment at which it waits for an event.
-use Rattle.std.specs.Prelude.{◌≡◌, ℕ, ◌<◌, false, List, length, slice_get, Some, None, is_some, true}
+use Rattle.std.specs.Prelude.{◌≡◌, ℕ, ◌<◌, true, false, List, length, Option, Some, None, is_some}
+use Rattle.std.specs.List.{AllByRecursion}
 use Rattle.fs_rules.specs.declared.geometry.Geometry.{Geometry}
 use Rattle.fs_rules.specs.Geometry.{IsWithinLimits}
 use Rattle.node_cache.specs.declared.entry.Entry.{Entry}
@@ -13,24 +14,34 @@ use Rattle.node_rules.specs.declared.node_state.NodeState.{NodeState}
 use Rattle.node_rules.specs.declared.running.Running.{Running}
 use Rattle.node_rules.specs.declared.running.Work.{Work}
 use Rattle.node_rules.specs.Plans.{IsServed}
-use Rattle.node_rules.specs.Stock.{is_cached}
+use Rattle.node_rules.specs.Stock.{Stock, is_cached}
+
+-- a map is a page
+abbrev pub IsPage : Option (List ℕ) → Type 0
+IsPage None = Unit {0}
+IsPage (Some page) = length page ≡ 4096
 
 -- a cache is in order: what it has can be held by a work set
 pub record IsCacheInOrder (g : Geometry) (cache : Cached) : Type 0 where
-  pub entries : (i : ℕ) (e : Entry) → slice_get cache.files i ≡ Some e → IsFitEntry g e
+  pub entries : AllByRecursion (IsFitEntry g) cache.files
   pub places : length cache.maps ≡ 8
-  pub pages : (m : ℕ) (page : List ℕ) → slice_get cache.maps m ≡ Some (Some page) → length page ≡ 4096
+  pub pages : AllByRecursion IsPage cache.maps
 
 -- no file has an entry in a work set and one in the cache
 abbrev pub AreApart : Held → Cached → Type 0
 AreApart held cache = (n : ℕ) → is_some (held_of n held.entries) ≡ true → held_of n cache.files ≡ None
 
+-- what an arrival can use
+pub record IsStockInOrder (g : Geometry) (s : Stock) : Type 0 where
+  pub size : s.held.geometry ≡ g
+  pub held : IsWorkSet s.held
+  pub cache : IsCacheInOrder g s.cache
+  pub apart : AreApart s.held s.cache
+
 -- an arrival that is worked on
 pub record IsWorkInOrder (g : Geometry) (cache : Cached) (work : Work) : Type 0 where
   pub served : IsServed g work.arrival.call
-  pub size : work.held.geometry ≡ g
-  pub held : IsWorkSet work.held
-  pub apart : AreApart work.held cache
+  pub stock : IsStockInOrder g (record { held = work.held; cache = cache })
   pub few : work.failures < 8
 
 -- what is fetched is told by what is held, and the cache has nothing of it
@@ -46,4 +57,4 @@ pub record IsInOrder {F : Type 0} (node : NodeState F) : Type 0 where
   pub limits : IsWithinLimits node.geometry
   pub cache : IsCacheInOrder node.geometry node.cache
   pub running : (r : Running F) → node.running ≡ Some r → IsRunningInOrder node.geometry node.cache r
-  pub waiting : (i : ℕ) (a : Arrival) → slice_get node.waiting i ≡ Some a → IsServed node.geometry a.call
+  pub waiting : AllByRecursion (λ a. IsServed node.geometry a.call) node.waiting
