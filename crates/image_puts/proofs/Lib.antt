@@ -1,0 +1,4 @@
+mod PutLemmas
+mod OnlyLemmas
+mod TakeLemmas
+mod MapLemmas

@@ -1,0 +1,4 @@
+pub mod Puts
+pub mod Only
+pub mod Takes
+pub mod Maps
