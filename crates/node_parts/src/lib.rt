@@ -11,5 +11,5 @@ mod votes;
 
 pub use caching::put_back;
 pub use moving::take;
-pub use sending::{places, written};
+pub use sending::{places, sizes, written};
 pub use votes::{cause_of, failed, is_mismatch};

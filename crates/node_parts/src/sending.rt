@@ -1,7 +1,9 @@
 //! What is kept of a minitransaction that was begun.
-ghost use Rattle.std.specs.Prelude.{◌≡◌, map, IfOk};
-ghost use Rattle.mini_tx.specs.Minitransactions.{memory_of, place_of};
+ghost use Rattle.std.specs.Prelude.{◌≡◌, map, if◌then◌else◌, Some, None, IfOk};
+ghost use Rattle.mini_tx.specs.Minitransactions.{bytes_of, memory_of, place_of};
 ghost use Rattle.node_rules.specs.Begin.{written, writes_map};
+ghost use Rattle.node_rules.specs.Plans.{read_sizes};
+ghost use Rattle.plan_rules.specs.Fetched.{is_read};
 
 use fs_layout::{BITMAPS_AT, INODES_AT};
 use mini_tx::{Item, Numbers};
@@ -30,6 +32,29 @@ pub fn written(alloc: Global, items: &[Item]) -> Result<Numbers, NoMemory>
         }
     }
     Ok(memories)
+}
+
+/// How many bytes each read item reads.
+pub fn sizes(alloc: Global, items: &[Item]) -> Result<Numbers, NoMemory>
+    ensures { IfOk result (λ sizes. sizes ≡ read_sizes items.now) }
+{
+    let mut sizes = Numbers::new(alloc);
+    for item in items {
+        if let Some(len) = bytes_read(item) {
+            sizes.push(len)?;
+        }
+    }
+    Ok(sizes)
+}
+
+// How many bytes an item reads, if it is a read item.
+fn bytes_read(item: &Item) -> Option<u32>
+    ensures { result ≡ (if is_read item.now then Some (bytes_of item.now) else None) }
+{
+    match item {
+        Item::Read { length, .. } => Some(*length),
+        Item::Compare { .. } | Item::Write { .. } => None,
+    }
 }
 
 // The address of an item.

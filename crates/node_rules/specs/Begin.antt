@@ -13,11 +13,11 @@ use Rattle.node_rules.specs.declared.attempt.Attempt.TheVariants as attempt
 use Rattle.node_rules.specs.declared.node_state.NodeState.{NodeState}
 use Rattle.node_rules.specs.declared.output.Output.{Output}
 use Rattle.node_rules.specs.declared.output.Output.TheVariants as output
-use Rattle.node_rules.specs.declared.plan.Plan.{Plan}
-use Rattle.node_rules.specs.declared.plan.Plan.TheVariants as plan
+use Rattle.plan_forms.specs.declared.plan.Plan.{Plan}
+use Rattle.plan_forms.specs.declared.plan.Plan.TheVariants as plan
 use Rattle.node_rules.specs.declared.running.Running.{Running}
 use Rattle.node_rules.specs.declared.running.Work.{Work}
-use Rattle.node_rules.specs.Plans.{Plans, want_of}
+use Rattle.node_rules.specs.Plans.{Plans, read_sizes, want_of}
 use Rattle.node_rules.specs.Stock.{Stock, empty_held, gathered, wanted_by}
 
 -- an item that writes maps: they lie in the second page
@@ -31,41 +31,42 @@ abbrev pub written : List Item → List ℕ
 written items = map memory_of (filter writes_map items)
 
 -- what is begun: its items, the file that it makes, and what it is for
-pub record Begun (F : Type 0) : Type 0 where
+pub record Begun : Type 0 where
   pub items : List Item
   pub made : Option (ℕ × ℕ)
-  pub attempt : Attempt F
+  pub attempt : Attempt
 
 -- by a plan over this work set: the fetch of the part that is needed, or the final
-abbrev pub begun_by : {F : Type 0} → Held → Plan F → Begun F
+abbrev pub begun_by : Held → Plan → Begun
 begun_by held (plan.Need w) = record { items = fetched held w; made = None; attempt = attempt.Fetch w }
 begun_by held (plan.Final items answer made changed) =
     record { items = items; made = made; attempt = attempt.Final (record { answer = answer; changed = changed; written = written items }) }
 
 -- it is planned for an arrival that has this work set: what it needs is what the arrival wants next
-pub record IsPlanned {F : Type 0} (plans : Plans F) (a : Arrival) (held : Held) (p : Plan F) : Type 0 where
+pub record IsPlanned (plans : Plans) (a : Arrival) (held : Held) (p : Plan) : Type 0 where
   pub needs : want_of p ≡ wanted_by a held
   pub planned : plans held a.call a.cred a.now a.id p
 
 -- what an arrival can use
-abbrev pub stock_of : {F : Type 0} → NodeState F → Work → Stock
+abbrev pub stock_of : NodeState → Work → Stock
 stock_of node work = record { held = work.held; cache = node.cache }
 
 -- the arrival once this was begun for it
-abbrev pub running_with : {F : Type 0} → Work → Held → Begun F → Running F
-running_with work held b = record { work = record work { held = held }; attempt = b.attempt; places = map place_of b.items }
+abbrev pub running_with : Work → Held → Begun → Running
+running_with work held b =
+    record { work = record work { held = held }; attempt = b.attempt; places = map place_of b.items; sizes = read_sizes b.items }
 
 -- what it can use once all that it wants and the cache has was moved
-abbrev pub stock_after : {F : Type 0} → NodeState F → Work → Stock
+abbrev pub stock_after : NodeState → Work → Stock
 stock_after node work = gathered work.arrival (stock_of node work)
 
 -- what the caller is to begin
-abbrev pub begun_output : {F : Type 0} → ℕ → Begun F → Output
+abbrev pub begun_output : ℕ → Begun → Output
 begun_output id b = output.Start id b.items b.made
 
 -- an arrival goes on: what it wants is moved from the cache, and then what is planned is begun for it
-pub record IsStarted {F : Type 0} (plans : Plans F) (node : NodeState F) (work : Work) (new : NodeState F) (o : Output) : Type 0 where
-  pub plan : Plan F
+pub record IsStarted (plans : Plans) (node : NodeState) (work : Work) (new : NodeState) (o : Output) : Type 0 where
+  pub plan : Plan
   pub planned : IsPlanned plans work.arrival (stock_after node work).held plan
   pub new_is : new ≡ record node {
     cache = (stock_after node work).cache;
@@ -78,7 +79,7 @@ abbrev pub fresh : Geometry → Arrival → Work
 fresh g a = record { arrival = a; held = empty_held g; failures = 0 }
 
 -- where none runs any more the one that came first starts, if any waits
-pub data GoesNext {F : Type 0} (plans : Plans F) (node : NodeState F) : NodeState F → List Output → Type 0 where
+pub data GoesNext (plans : Plans) (node : NodeState) : NodeState → List Output → Type 0 where
   idle : node.waiting ≡ [] → GoesNext plans node (record node { running = None }) []
-  next : (a : Arrival) (rest : List Arrival) (new : NodeState F) (o : Output) → node.waiting ≡ a ∷ rest
+  next : (a : Arrival) (rest : List Arrival) (new : NodeState) (o : Output) → node.waiting ≡ a ∷ rest
       → IsStarted plans (record node { running = None; waiting = rest }) (fresh node.geometry a) new o → GoesNext plans node new (o ∷ [])

@@ -3,13 +3,13 @@ use Rattle.std.specs.Prelude.{◌≡◌, ℕ, ◌+◌, ◌<◌, ◌==◌, Bool, 
 use Rattle.std.specs.List.{list_any}
 use Rattle.mini_tx.specs.declared.vote.Vote.{Vote}
 use Rattle.mini_tx.specs.declared.vote.Vote.TheVariants as vote
-use Rattle.nfs_proto.specs.declared.answer.Answer.{Answer}
 use Rattle.nfs_proto.specs.Answers.{answer_spelling}
 use Rattle.rpc_msg.specs.Messages.{accepted}
 use Rattle.node_cache.specs.declared.entry.Entry.{Entry}
 use Rattle.node_cache.specs.declared.held.Held.{Held}
 use Rattle.node_cache.specs.declared.want.Want.{Want}
 use Rattle.node_cache.specs.Cached.{Cached, put_first}
+use Rattle.plan_forms.specs.Forms.{said}
 use Rattle.plan_rules.specs.Fetched.{IsKept, IsUnfitAt}
 use Rattle.tx_coord.specs.declared.outcome.Outcome.{Outcome}
 use Rattle.tx_coord.specs.declared.outcome.Outcome.TheVariants as outcome
@@ -22,7 +22,6 @@ use Rattle.node_rules.specs.declared.output.Output.{Output}
 use Rattle.node_rules.specs.declared.output.Output.TheVariants as output
 use Rattle.node_rules.specs.declared.running.Running.{Running}
 use Rattle.node_rules.specs.declared.running.Work.{Work}
-use Rattle.node_rules.specs.Plans.{Answers}
 use Rattle.node_rules.specs.Stock.{empty_held, empty_cache}
 
 -- ---- a granted final
@@ -46,7 +45,7 @@ unfoldable pub maps_after : List ℕ → ℕ → List (Option (List ℕ)) → Li
 maps_after written m [] maps = maps
 maps_after written m (page ∷ pages) maps = maps_after written (m + 1) pages (map_after written m page maps)
 
-abbrev pub cached_after : {F : Type 0} → Pending F → Held → Cached → Cached
+abbrev pub cached_after : Pending → Held → Cached → Cached
 cached_after p held cache = record { files = files_after p.changed held.entries cache.files; maps = maps_after p.written 0 held.maps cache.maps }
 
 -- ---- a vote that is not Granted
@@ -83,15 +82,15 @@ pub data Progress : Type 0 where
 
 -- what was read is held, or is unfit and ends the arrival; what a granted final read is answered; the eighth failure ends it,
 -- and an earlier one does not
-pub data Comes {F : Type 0} (answers : Answers F) (r : Running F) (cache : Cached) : Outcome → Progress → Type 0 where
+pub data Comes (r : Running) (cache : Cached) : Outcome → Progress → Type 0 where
   kept : (w : Want) (reads : List (List ℕ)) (new : Held) → r.attempt ≡ attempt.Fetch w → IsKept r.work.held w reads new
-      → Comes answers r cache (outcome.Committed reads) (GoesOn (record r.work { held = new }) cache)
+      → Comes r cache (outcome.Committed reads) (GoesOn (record r.work { held = new }) cache)
   damaged : (w : Want) (reads : List (List ℕ)) (m at : ℕ) → r.attempt ≡ attempt.Fetch w → IsUnfitAt r.work.held w reads m at
-      → Comes answers r cache (outcome.Committed reads) (Ends (output.Dropped r.work.arrival.id (why.Damaged m at)) cache)
-  answered : (p : Pending F) (reads : List (List ℕ)) (a : Answer) → r.attempt ≡ attempt.Final p → answers p.answer reads a
-      → Comes answers r cache (outcome.Committed reads)
-      (Ends (output.Reply r.work.arrival.id (accepted r.work.arrival.xid (answer_spelling a))) (cached_after p r.work.held cache))
+      → Comes r cache (outcome.Committed reads) (Ends (output.Dropped r.work.arrival.id (why.Damaged m at)) cache)
+  answered : (p : Pending) (reads : List (List ℕ)) → r.attempt ≡ attempt.Final p
+      → Comes r cache (outcome.Committed reads)
+      (Ends (output.Reply r.work.arrival.id (accepted r.work.arrival.xid (answer_spelling (said p.answer reads)))) (cached_after p r.work.held cache))
   again : (m : ℕ) (v : Vote) → r.work.failures + 1 < 8
-      → Comes answers r cache (outcome.Refused m v) (GoesOn (work_after v r.work) (cache_after v cache))
+      → Comes r cache (outcome.Refused m v) (GoesOn (work_after v r.work) (cache_after v cache))
   failed : (m : ℕ) (v : Vote) → r.work.failures + 1 ≡ 8
-      → Comes answers r cache (outcome.Refused m v) (Ends (output.Retry r.work.arrival.id (cause_of m v r.places)) (cache_after v cache))
+      → Comes r cache (outcome.Refused m v) (Ends (output.Retry r.work.arrival.id (cause_of m v r.places)) (cache_after v cache))

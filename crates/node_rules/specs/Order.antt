@@ -5,7 +5,9 @@ use Rattle.fs_rules.specs.declared.geometry.Geometry.{Geometry}
 use Rattle.fs_rules.specs.Geometry.{IsWithinLimits}
 use Rattle.node_cache.specs.declared.entry.Entry.{Entry}
 use Rattle.node_cache.specs.declared.held.Held.{Held}
+use Rattle.node_cache.specs.declared.want.Want.{Want}
 use Rattle.node_cache.specs.Cached.{Cached, held_of}
+use Rattle.plan_rules.specs.Fetched.{fetched}
 use Rattle.plan_rules.specs.Works.{IsFitEntry, IsTold, IsWorkSet}
 use Rattle.node_rules.specs.declared.arrival.Arrival.{Arrival}
 use Rattle.node_rules.specs.declared.attempt.Attempt.{Attempt}
@@ -13,7 +15,7 @@ use Rattle.node_rules.specs.declared.attempt.Attempt.TheVariants as attempt
 use Rattle.node_rules.specs.declared.node_state.NodeState.{NodeState}
 use Rattle.node_rules.specs.declared.running.Running.{Running}
 use Rattle.node_rules.specs.declared.running.Work.{Work}
-use Rattle.node_rules.specs.Plans.{IsServed}
+use Rattle.node_rules.specs.Plans.{IsAnswerable, IsServed, read_sizes}
 use Rattle.node_rules.specs.Stock.{Stock, is_cached}
 
 -- a map is a page
@@ -44,17 +46,23 @@ pub record IsWorkInOrder (g : Geometry) (cache : Cached) (work : Work) : Type 0 
   pub stock : IsStockInOrder g (record { held = work.held; cache = cache })
   pub few : work.failures < 8
 
--- what is fetched is told by what is held, and the cache has nothing of it
-abbrev pub IsAttemptInOrder : {F : Type 0} → Held → Cached → Attempt F → Type 0
-IsAttemptInOrder held cache (attempt.Fetch w) = IsTold held w × (is_cached cache w ≡ false)
-IsAttemptInOrder held cache (attempt.Final p) = Unit {0}
+-- what is fetched is told by what is held, the cache has nothing of it, and its items read so much each
+pub record IsFetchInOrder (held : Held) (cache : Cached) (w : Want) (sizes : List ℕ) : Type 0 where
+  pub told : IsTold held w
+  pub lacks : is_cached cache w ≡ false
+  pub sized : sizes ≡ read_sizes (fetched held w)
 
-pub record IsRunningInOrder {F : Type 0} (g : Geometry) (cache : Cached) (r : Running F) : Type 0 where
+-- and what a final reads can be answered
+abbrev pub IsAttemptInOrder : Held → Cached → Attempt → List ℕ → Type 0
+IsAttemptInOrder held cache (attempt.Fetch w) sizes = IsFetchInOrder held cache w sizes
+IsAttemptInOrder held cache (attempt.Final p) sizes = IsAnswerable sizes p.answer
+
+pub record IsRunningInOrder (g : Geometry) (cache : Cached) (r : Running) : Type 0 where
   pub work : IsWorkInOrder g cache r.work
-  pub attempt : IsAttemptInOrder r.work.held cache r.attempt
+  pub attempt : IsAttemptInOrder r.work.held cache r.attempt r.sizes
 
-pub record IsInOrder {F : Type 0} (node : NodeState F) : Type 0 where
+pub record IsInOrder (node : NodeState) : Type 0 where
   pub limits : IsWithinLimits node.geometry
   pub cache : IsCacheInOrder node.geometry node.cache
-  pub running : (r : Running F) → node.running ≡ Some r → IsRunningInOrder node.geometry node.cache r
+  pub running : (r : Running) → node.running ≡ Some r → IsRunningInOrder node.geometry node.cache r
   pub waiting : AllByRecursion (λ a. IsServed node.geometry a.call) node.waiting

@@ -1,18 +1,23 @@
 -- What is planned for a call.
-use Rattle.std.specs.Prelude.{◌≡◌, ℕ, true, false, List, Option, Some, None}
-use Rattle.nfs_proto.specs.declared.answer.Answer.{Answer}
+use Rattle.std.specs.Prelude.{◌≡◌, ℕ, true, false, List, length, map, Option, Some, None}
+use Rattle.mini_tx.specs.declared.item.Item.{Item}
+use Rattle.mini_tx.specs.Minitransactions.{bytes_of}
 use Rattle.nfs_proto.specs.declared.call.Call.{Call}
 use Rattle.nfs_proto.specs.declared.stamp.Stamp.{Stamp}
 use Rattle.nfs_proto.specs.Arguments.{IsFit}
 use Rattle.rpc_msg.specs.declared.cred.Cred.{Cred}
 use Rattle.fs_rules.specs.declared.geometry.Geometry.{Geometry}
-use Rattle.nfs_service.specs.Reply.{does_nothing}
+use Rattle.fs_rules.specs.Respond as respond
+use Rattle.nfs_service.specs.Reply.{does_nothing, HasHandle}
 use Rattle.nfs_service.specs.Needs.{are_handles}
 use Rattle.node_cache.specs.declared.held.Held.{Held}
 use Rattle.node_cache.specs.declared.want.Want.{Want}
+use Rattle.plan_forms.specs.declared.form.AnswerForm.{AnswerForm}
+use Rattle.plan_forms.specs.declared.plan.Plan.{Plan}
+use Rattle.plan_forms.specs.declared.plan.Plan.TheVariants as plan
+use Rattle.plan_forms.specs.Forms.{AreReadsFor, said}
+use Rattle.plan_rules.specs.Fetched.{read_items}
 use Rattle.plan_rules.specs.Works.{IsTold}
-use Rattle.node_rules.specs.declared.plan.Plan.{Plan}
-use Rattle.node_rules.specs.declared.plan.Plan.TheVariants as plan
 
 -- a call needs the file system: it does something, its handles have their form and numbers of this cluster, and what it names
 -- is not too long
@@ -22,19 +27,30 @@ pub record IsServed (g : Geometry) (call : Call) : Type 0 where
   pub fit : IsFit call
 
 -- which plans may be made for a call of the arrival with this number at this moment, over what is held
-abbrev pub Plans : Type 0 → Type 1
-Plans F = Held → Call → Cred → Stamp → ℕ → Plan F → Type 0
-
--- which answers are made of these reads
-abbrev pub Answers : Type 0 → Type 1
-Answers F = F → List (List ℕ) → Answer → Type 0
+abbrev pub Plans : Type 1
+Plans = Held → Call → Cred → Stamp → ℕ → Plan → Type 0
 
 -- the part that is needed first
-abbrev pub want_of : {F : Type 0} → Plan F → Option Want
+abbrev pub want_of : Plan → Option Want
 want_of (plan.Need w) = Some w
 want_of (plan.Final mini answer made changed) = None
 
 -- what is held tells where it lies
-abbrev pub IsWantTold : {F : Type 0} → Held → Plan F → Type 0
+abbrev pub IsWantTold : Held → Plan → Type 0
 IsWantTold held (plan.Need w) = IsTold held w
 IsWantTold held (plan.Final mini answer made changed) = Unit {0}
+
+-- how much each read item of a minitransaction reads
+abbrev pub read_sizes : List Item → List ℕ
+read_sizes items = map bytes_of (read_items items)
+
+-- an answer is made of all that can be read in these lengths, and a reply can spell it
+pub record IsAnswerable (sizes : List ℕ) (form : AnswerForm) : Type 0 where
+  pub takes : (reads : List (List ℕ)) → map length reads ≡ sizes → AreReadsFor form reads
+  pub told : (reads : List (List ℕ)) → map length reads ≡ sizes → respond.IsTold (said form reads)
+  pub handle : (reads : List (List ℕ)) → map length reads ≡ sizes → HasHandle (said form reads)
+
+-- what a final reads can be answered
+abbrev pub IsSound : Plan → Type 0
+IsSound (plan.Need w) = Unit {0}
+IsSound (plan.Final mini answer made changed) = IsAnswerable (read_sizes mini) answer

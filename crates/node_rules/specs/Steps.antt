@@ -20,7 +20,7 @@ use Rattle.node_rules.specs.declared.output.Output.{Output}
 use Rattle.node_rules.specs.declared.output.Output.TheVariants as output
 use Rattle.node_rules.specs.declared.running.Running.{Running}
 use Rattle.node_rules.specs.declared.running.Work.{Work}
-use Rattle.node_rules.specs.Plans.{Plans, Answers}
+use Rattle.node_rules.specs.Plans.{Plans}
 use Rattle.node_rules.specs.Begin.{IsStarted, GoesNext, fresh}
 use Rattle.node_rules.specs.End.{Progress, GoesOn, Ends, Comes}
 
@@ -33,7 +33,7 @@ came id now xid call cred = record { id = id; now = now; xid = xid; call = call;
 -- what is asked by the arrival with this number at this moment: nothing that is answered; something that is answered without
 -- the file system, as a handle that is none of this cluster; a call of the file system, which is dropped where 32 wait, waits
 -- where one runs, and else starts
-pub data Arrives {F : Type 0} (plans : Plans F) (node : NodeState F) (id : ℕ) (now : Stamp) : Request → NodeState F → List Output → Type 0 where
+pub data Arrives (plans : Plans) (node : NodeState) (id : ℕ) (now : Stamp) : Request → NodeState → List Output → Type 0 where
   silent : Arrives plans node id now request.Silent node (output.Dropped id why.Silent ∷ [])
   told : (reply : List ℕ) → Arrives plans node id now (request.Told reply) node (output.Reply id reply ∷ [])
   foreign : (xid : ℕ) (call : Call) (cred : Cred) → needs_files node.geometry (request.Asked xid call cred) ≡ false
@@ -41,10 +41,10 @@ pub data Arrives {F : Type 0} (plans : Plans F) (node : NodeState F) (id : ℕ) 
       (output.Reply id (accepted xid (answer_spelling (answer.Fault stale))) ∷ [])
   full : (xid : ℕ) (call : Call) (cred : Cred) → needs_files node.geometry (request.Asked xid call cred) ≡ true → length node.waiting ≡ 32
       → Arrives plans node id now (request.Asked xid call cred) node (output.Dropped id why.Full ∷ [])
-  waits : (xid : ℕ) (call : Call) (cred : Cred) (r : Running F) → needs_files node.geometry (request.Asked xid call cred) ≡ true
+  waits : (xid : ℕ) (call : Call) (cred : Cred) (r : Running) → needs_files node.geometry (request.Asked xid call cred) ≡ true
       → length node.waiting < 32 → node.running ≡ Some r
       → Arrives plans node id now (request.Asked xid call cred) (record node { waiting = node.waiting ++ came id now xid call cred ∷ [] }) []
-  starts : (xid : ℕ) (call : Call) (cred : Cred) (new : NodeState F) (o : Output)
+  starts : (xid : ℕ) (call : Call) (cred : Cred) (new : NodeState) (o : Output)
       → needs_files node.geometry (request.Asked xid call cred) ≡ true → length node.waiting < 32 → node.running ≡ None
       → IsStarted plans node (fresh node.geometry (came id now xid call cred)) new o
       → Arrives plans node id now (request.Asked xid call cred) new (o ∷ [])
@@ -52,24 +52,24 @@ pub data Arrives {F : Type 0} (plans : Plans F) (node : NodeState F) (id : ℕ) 
 -- ---- a minitransaction ends
 
 -- the arrival goes on, or it ends and the next one starts
-pub data GoesOnWith {F : Type 0} (plans : Plans F) (node : NodeState F) : Progress → NodeState F → List Output → Type 0 where
-  on : (work : Work) (cache : Cached) (new : NodeState F) (o : Output)
+pub data GoesOnWith (plans : Plans) (node : NodeState) : Progress → NodeState → List Output → Type 0 where
+  on : (work : Work) (cache : Cached) (new : NodeState) (o : Output)
       → IsStarted plans (record node { cache = cache; running = None }) work new o → GoesOnWith plans node (GoesOn work cache) new (o ∷ [])
-  over : (o : Output) (cache : Cached) (new : NodeState F) (outputs : List Output)
+  over : (o : Output) (cache : Cached) (new : NodeState) (outputs : List Output)
       → GoesNext plans (record node { cache = cache; running = None }) new outputs → GoesOnWith plans node (Ends o cache) new (o ∷ outputs)
 
-pub record IsEnded {F : Type 0} (plans : Plans F) (answers : Answers F) (node : NodeState F) (ended : Outcome) (new : NodeState F) (outputs : List Output) : Type 0 where
-  pub running : Running F
+pub record IsEnded (plans : Plans) (node : NodeState) (ended : Outcome) (new : NodeState) (outputs : List Output) : Type 0 where
+  pub running : Running
   pub runs : node.running ≡ Some running
   pub progress : Progress
-  pub comes : Comes answers running node.cache ended progress
+  pub comes : Comes running node.cache ended progress
   pub goes : GoesOnWith plans node progress new outputs
 
 -- ---- it is given up
 
 -- it is never tried again, since its outcome is unknown
-pub record IsGivenUp {F : Type 0} (plans : Plans F) (node new : NodeState F) (outputs : List Output) : Type 0 where
-  pub running : Running F
+pub record IsGivenUp (plans : Plans) (node new : NodeState) (outputs : List Output) : Type 0 where
+  pub running : Running
   pub runs : node.running ≡ Some running
   pub rest : List Output
   pub next : GoesNext plans (record node { running = None }) new rest

@@ -15,10 +15,12 @@ pub struct Work {
 
 /// An arrival whose minitransaction runs.
 #[derive(Debug, Drop)]
-pub struct Running<F> {
+pub struct Running {
     pub work: Work,
     /// What this minitransaction is for.
-    pub attempt: Attempt<F>,
+    pub attempt: Attempt,
     /// The address of each of its items.
     pub places: Numbers,
+    /// How many bytes each of its read items reads.
+    pub sizes: Numbers,
 }
