@@ -15,7 +15,7 @@ mod slots;
 mod using;
 mod writing;
 
-pub use listing::list_names;
+pub use listing::{Run, list_names};
 pub use naming::{put_name, slots_after_put, take_name, used_after_put};
 pub use reading::read_part;
 pub use sizes::resize;

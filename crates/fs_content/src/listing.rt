@@ -42,19 +42,22 @@ pub fn list_names(
     })
 }
 
-// The entries of an answer, the room that is left behind them, whether an entry did not fit, and whether
-// one was left out.
+/// The entries of an answer with names, while they are given one after another.
 #[derive(Debug, Drop)]
-struct Run {
-    entries: DirEntries,
-    room: usize,
-    is_full: bool,
-    leaves_some: bool,
+pub struct Run {
+    /// Those that are given.
+    pub entries: DirEntries,
+    /// The bytes that are left for further ones.
+    pub room: usize,
+    /// Whether one did not fit.
+    pub is_full: bool,
+    /// Whether one was left out.
+    pub leaves_some: bool,
 }
 
 impl Run {
-    // No entries, and the room that so many bytes leave for them.
-    fn new(alloc: Global, count: u32) -> Run
+    /// No entries, and the room that so many bytes leave for them.
+    pub fn new(alloc: Global, count: u32) -> Run
         ensures { result ≡ record { entries = []; room = min count 8192 - 8; is_full = false; leaves_some = false } }
     {
         let room = count.min(MAX_NAMES_BYTES).saturating_sub(ENDING_BYTES);
@@ -106,8 +109,9 @@ impl Run {
         })
     }
 
-    // Offers an entry, where it stands behind a cookie.
-    fn offer_behind(
+    /// Offers an entry, where it stands behind a cookie: it is given where it fits, and the first one in any case.
+    /// On [`NoMemory`] the run is of no use.
+    pub fn offer_behind(
         &mut self,
         alloc: Global,
         behind: u32,

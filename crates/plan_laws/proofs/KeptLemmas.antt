@@ -18,13 +18,7 @@ use Rattle.plan_rules.specs.Works.{IsFitEntry, IsTold, IsWorkSet}
 use Rattle.plan_rules.proofs.SearchLemmas.{found_there}
 use Rattle.plan_laws.specs.Kept.{KeptIsInOrder}
 use Rattle.plan_laws.proofs.AscendingLemmas.{ascends, is_up, numbers, put_ascends}
-
--- what stands in a list with one element more at the end
-added : {X : Type 0} (c d : X) (xs : List X) (i : ℕ) → slice_get (xs ++ c ∷ []) i ≡ Some d → (slice_get xs i ≡ Some d) ⊎ (c ≡ d)
-added c d [] zero is = inr cc
-added c d [] (suc i) is = absurd cc
-added c d (x ∷ xs) zero is = inl is
-added c d (x ∷ xs) (suc i) is = added c d xs i is
+use Rattle.plan_laws.proofs.EntryLemmas.{added, all_changed, all_put, at_place, by_place, none_there}
 
 same_numbers : (n : ℕ) (change : Entry → Entry) → ((e : Entry) → (change e).number ≡ e.number) → (es : List Entry) → numbers (changed_in n change es) ≡ numbers es
 unfolding changed_in
@@ -35,63 +29,23 @@ same_numbers n change same (e ∷ es) = by (nat_eq n e.number) (same_numbers n c
     by true rest = ap (λ k. k ∷ numbers es) (same e)
     by false rest = ap (λ ks. e.number ∷ ks) rest
 
-module _ (g : Geometry) where
-  abbrev AreFit : List Entry → Type 0
-  AreFit es = AllByRecursion (IsFitEntry g) es
-
-  by_place : (es : List Entry) → ((i : ℕ) (e : Entry) → slice_get es i ≡ Some e → IsFitEntry g e) → AreFit es
-  by_place [] all = tt
-  by_place (e ∷ es) all = (all 0 e refl, by_place es (λ i f is. all (suc i) f is))
-
-  at_place : (es : List Entry) → AreFit es → (i : ℕ) (e : Entry) → slice_get es i ≡ Some e → IsFitEntry g e
-  at_place [] all zero e is = absurd cc
-  at_place [] all (suc i) e is = absurd cc
-  at_place (f ∷ fs) all zero e is = let same : f ≡ e = cc in subst (λ x. IsFitEntry g x) same all.0
-  at_place (f ∷ fs) all (suc i) e is = at_place fs all.1 i e is
-
-  put_by : (e f : Entry) (fs : List Entry) (b t : Bool) → IsFitEntry g e → AreFit (f ∷ fs) → AreFit (put_entry e fs)
-      → AreFit (cond b (cond t (e ∷ fs) (e ∷ f ∷ fs)) (f ∷ put_entry e fs))
-  put_by e f fs true true fit all more = (fit, all.1)
-  put_by e f fs true false fit all more = (fit, all)
-  put_by e f fs false t fit all more = (all.0, more)
-
-  put_fits : (e : Entry) (fs : List Entry) → IsFitEntry g e → AreFit fs → AreFit (put_entry e fs)
-  unfolding put_entry
-  put_fits e [] fit all = (fit, tt)
-  put_fits e (f ∷ fs) fit all = put_by e f fs (nat_le e.number f.number) (nat_eq f.number e.number) fit all (put_fits e fs fit all.1)
-
-  module _ (n : ℕ) (change : Entry → Entry) where
-    abbrev Keeps : List Entry → Type 0
-    Keeps es = (f : Entry) → held_of n es ≡ Some f → IsFitEntry g f → IsFitEntry g (change f)
-
-    changed_by : (e : Entry) (es : List Entry) (b : Bool) → ((f : Entry) → cond b (Some e) (held_of n es) ≡ Some f → IsFitEntry g f → IsFitEntry g (change f))
-        → AreFit (e ∷ es) → (Keeps es → AreFit (changed_in n change es)) → AreFit (cond b (change e ∷ es) (e ∷ changed_in n change es))
-    changed_by e es true keeps all rest = (keeps e refl all.0, all.1)
-    changed_by e es false keeps all rest = (all.0, rest keeps)
-
-    changed_fits : (es : List Entry) → Keeps es → AreFit es → AreFit (changed_in n change es)
-    unfolding changed_in
-    changed_fits [] keeps all = tt
-    changed_fits (e ∷ es) keeps all = changed_by e es (nat_eq n e.number) keeps all (λ k. changed_fits es k all.1)
-
 -- entries in order
 module _ (held : Held) (work : IsWorkSet held) where
   abbrev g : Geometry
   g = held.geometry
 
-  with_entries : (es : List Entry) → numbers es ≡ numbers held.entries → AreFit g es → IsWorkSet (record held { entries = es })
+  abbrev AreFit : List Entry → Type 0
+  AreFit es = AllByRecursion (IsFitEntry g) es
+
+  with_entries : (es : List Entry) → numbers es ≡ numbers held.entries → AreFit es → IsWorkSet (record held { entries = es })
   with_entries es same all =
       record {
         limits = work.limits;
         ascending = subst (λ ks. IsStrictlyIncreasing ks) (sym same) work.ascending;
-        entries = at_place g es all;
+        entries = at_place (IsFitEntry g) es all;
         places = work.places;
         pages = work.pages;
       }
-
-  none_there : {X : Type 0} (i : ℕ) (x : X) → slice_get [] i ≡ Some x → ⊥
-  none_there zero x is = absurd cc
-  none_there (suc i) x is = absurd cc
 
   record_kept : (n : ℕ) (reads : List (List ℕ)) (new : Held) → IsTold held (want.Inode n) → IsRecordKept held n reads new → IsWorkSet new
   record_kept n reads new told kept =
@@ -107,7 +61,7 @@ module _ (held : Held) (work : IsWorkSet held) where
       subst IsWorkSet (sym kept.new_is) (record {
         limits = work.limits;
         ascending = is_up (numbers (put_entry e held.entries)) (put_ascends e held.entries (ascends (numbers held.entries) work.ascending));
-        entries = at_place g (put_entry e held.entries) (put_fits g e held.entries fit (by_place g held.entries work.entries));
+        entries = at_place (IsFitEntry g) (put_entry e held.entries) (all_put (IsFitEntry g) e held.entries fit (by_place (IsFitEntry g) held.entries work.entries));
         places = work.places;
         pages = work.pages;
       })
@@ -158,7 +112,7 @@ module _ (held : Held) (work : IsWorkSet held) where
       subst IsWorkSet (sym kept.new_is)
       (with_entries (changed_in n (λ e. record e { chains = e.chains ++ c ∷ [] }) held.entries)
       (same_numbers n (λ e. record e { chains = e.chains ++ c ∷ [] }) (λ e. refl) held.entries)
-      (changed_fits g n (λ e. record e { chains = e.chains ++ c ∷ [] }) held.entries keeps (by_place g held.entries work.entries)))
+      (all_changed (IsFitEntry g) n (λ e. record e { chains = e.chains ++ c ∷ [] }) held.entries keeps (by_place (IsFitEntry g) held.entries work.entries)))
 
   group_kept : (n s : ℕ) (reads : List (List ℕ)) (new : Held) → IsGroupKept held n s reads new → IsWorkSet new
   group_kept n s reads new kept =
@@ -166,7 +120,7 @@ module _ (held : Held) (work : IsWorkSet held) where
       subst IsWorkSet (sym kept.new_is)
       (with_entries (changed_in n (λ e. record e { groups = e.groups ++ c ∷ [] }) held.entries)
       (same_numbers n (λ e. record e { groups = e.groups ++ c ∷ [] }) (λ e. refl) held.entries)
-      (changed_fits g n (λ e. record e { groups = e.groups ++ c ∷ [] }) held.entries (λ f is fit. one_group_more f c fit kept.fit) (by_place g held.entries work.entries)))
+      (all_changed (IsFitEntry g) n (λ e. record e { groups = e.groups ++ c ∷ [] }) held.entries (λ f is fit. one_group_more f c fit kept.fit) (by_place (IsFitEntry g) held.entries work.entries)))
 
   set_there : {X : Type 0} (xs : List X) (m : ℕ) (v : X) (k : ℕ) (x : X) → slice_get (slice_set xs m v) k ≡ Some x → (v ≡ x) ⊎ (slice_get xs k ≡ Some x)
   set_there [] m v k x is = inr is

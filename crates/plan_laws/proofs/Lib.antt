@@ -1,2 +1,3 @@
-mod AscendingLemmas
-mod KeptLemmas
+pub mod EntryLemmas
+pub mod AscendingLemmas
+pub mod KeptLemmas

@@ -1,2 +1,3 @@
 pub mod LookupLemmas
 pub mod PlanLemmas
+pub mod ReadingLemmas

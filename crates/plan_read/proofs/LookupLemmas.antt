@@ -1,5 +1,5 @@
 -- What LOOKUP goes through.
-use Rattle.std.proofs.Common.{◌≡◌, ℕ, true, false, cond, List, [], ◌∷◌, ◌++◌, map, Option, Some, None, Result, Err, refl, sym, ap, subst, ◌∙◌}
+use Rattle.std.proofs.Common.{◌≡◌, ℕ, true, false, cond, List, [], ◌∷◌, ◌++◌, map, Option, Some, None, refl, ap, ◌∙◌}
 use Rattle.std.specs.Prelude.{◌||◌, not}
 use Rattle.std.specs.Option.{option_map_or}
 use Rattle.rpc_msg.specs.declared.cred.Cred.{Cred}
@@ -14,10 +14,9 @@ use Rattle.plan_rules.specs.declared.look.Look.{Look}
 use Rattle.plan_rules.specs.declared.look.Look.TheVariants.{Record}
 use Rattle.plan_rules.specs.Names.{name_steps, target}
 use Rattle.plan_rules.specs.Orders.{access_check, directory_check}
-use Rattle.plan_rules.specs.Steps.{Step, Looks, Checks}
+use Rattle.plan_rules.specs.Steps.{Looks, Checks}
 use Rattle.plan_rules.specs.Told.{at_record, file_of, found}
-use Rattle.plan_looks.specs.declared.stop.Stop.{Stop}
-use Rattle.plan_looks.specs.Goes.{Ends, Goes, GoesOn, IsRefused}
+use Rattle.plan_looks.specs.Goes.{GoesOn, IsRefused}
 use Rattle.plan_looks.proofs.GoesLemmas.{checks_fail, checks_on}
 use Rattle.plan_read.specs.Lookup.{behind_search}
 
@@ -28,11 +27,6 @@ pub row_is : (held : Held) (dir name : List ℕ) (cred : Cred) (f : File) → fi
 row_is held dir name cred f is =
     ap (λ (p : Option File). first_failure (fails_where notdir (not (option_map_or (λ g. is_directory g.content) p false)) ∷ name_check (looked_up dir name)
     ∷ fails_where acces (not (option_map_or (λ g. may g cred 1) p false)) ∷ [])) is
-
--- what goes no further ends so
-pub ends_at : {B : Type 0} (held : Held) (steps : List Step) (old new : List Look) (e y : Stop) (r : Result B Stop) → r ≡ Err y → y ≡ e → Ends held steps old new e
-    → Goes held steps old new r
-ends_at {B = B} held steps old new e y r is same ends = subst (λ (s : Result B Stop). Goes held steps old new s) (sym (is ∙ ap Err same)) ends
 
 -- what the name names: the directory, its parent, or what is found
 module _ (held : Held) (n : ℕ) (name : List ℕ) where

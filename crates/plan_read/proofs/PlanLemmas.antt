@@ -1,12 +1,13 @@
 -- How a plan ends.
 use Rattle.std.proofs.Common.{◌≡◌, ℕ, suc, ◌+◌, arith, map, List, [], ◌∷◌, ◌++◌, Option, Some, None, Result, Ok, Err, IfOk, refl, sym, ap, subst, ◌∙◌}
+use Rattle.std.specs.Prelude.{◌%◌}
 use Rattle.std.proofs.lemmas.List.{append-nil, map-append}
 use Rattle.fs_rules.specs.Handle.{number_in}
 use Rattle.fs_rules.specs.Lists.{below}
 use Rattle.rpc_msg.specs.declared.cred.Cred.{Cred}
 use Rattle.nfs_proto.specs.declared.answer.Answer.TheVariants.{Fault}
 use Rattle.nfs_proto.specs.declared.call.Call.{Call}
-use Rattle.nfs_proto.specs.declared.call.Call.TheVariants.{GetAttr, Lookup, StatFs}
+use Rattle.nfs_proto.specs.declared.call.Call.TheVariants.{GetAttr, Lookup, Read, ReadDir, ReadLink, StatFs}
 use Rattle.nfs_proto.specs.declared.handle.Handle.{Handle}
 use Rattle.nfs_proto.specs.declared.stamp.Stamp.{Stamp}
 use Rattle.mini_tx.specs.declared.item.Item.{Item}
@@ -23,9 +24,12 @@ use Rattle.plan_forms.specs.declared.plan.Reading.{Reading}
 use Rattle.plan_looks.specs.Goes.{Ends, GoesOn, IsRefused}
 use Rattle.plan_looks.specs.declared.stop.Stop.{Stop}
 use Rattle.plan_looks.specs.declared.stop.Stop.TheVariants as stop
-use Rattle.read_laws.specs.Answers.{IsReading, ready, reading_of}
+use Rattle.read_laws.specs.Answers.{ready}
 use Rattle.read_laws.specs.Promise.{IsPlan, IsReadFinal, KeepsPromise}
 use Rattle.read_laws.proofs.PromiseLemmas.{read_finals_keep_promise}
+use Rattle.plan_read.specs.Readings.{IsReading, reading_of}
+use Rattle.plan_read.proofs.ReadingLemmas.{readings_answer}
+use Rattle.plan_content.specs.Steps.{read_dir_steps, read_link_steps, read_steps}
 use Rattle.plan_read.specs.Finals.{IsFinalOf, IsStopped}
 use Rattle.plan_read.specs.Lookup.{directory_steps}
 
@@ -51,15 +55,30 @@ pub stat_fs_order : (held : Held) (arrival : ℕ) (file : Handle) (cred : Cred) 
 unfolding order
 stat_fs_order held arrival file cred = refl
 
+pub read_link_order : (held : Held) (arrival : ℕ) (file : Handle) (cred : Cred)
+    → order held arrival (ReadLink file) cred ≡ read_link_steps held (arrival % held.geometry.memories) file.0
+unfolding order
+read_link_order held arrival file cred = refl
+
+pub read_order : (held : Held) (arrival : ℕ) (file : Handle) (offset count total : ℕ) (cred : Cred)
+    → order held arrival (Read file offset count total) cred ≡ read_steps held (arrival % held.geometry.memories) file.0 offset count cred
+unfolding order
+read_order held arrival file offset count total cred = refl
+
+pub read_dir_order : (held : Held) (arrival : ℕ) (dir : Handle) (cookie count : ℕ) (cred : Cred)
+    → order held arrival (ReadDir dir cookie count) cred ≡ read_dir_steps held dir.0 cred
+unfolding order
+read_dir_order held arrival dir cookie count cred = refl
+
 two_ways : (a b : Option ℕ) (status : ℕ) → a ≡ None → a ≡ Some status → ⊥
 two_ways a b status none some = let never : ◌≡◌ {A = Option ℕ} None (Some status) = sym none ∙ some in absurd cc
 
 module _ (held : Held) (arrival : ℕ) (call : Call) (cred : Cred) (now : Stamp) (looks : List Look) (work : IsWorkSet held) (is : IsReading call) where
-  ended : (mini : List Item) (form : AnswerForm) (made : Option (ℕ × ℕ)) (changed : List ℕ) → made ≡ None → changed ≡ [] → IsReadFinal held arrival call cred mini form
+  ended : (mini : List Item) (form : AnswerForm) (made : Option (ℕ × ℕ)) (changed : List ℕ) → made ≡ None → changed ≡ [] → IsReadFinal held arrival call cred (reading_of held call) mini form
       → KeepsPromise held arrival call cred now mini form made changed
   ended mini form made changed none nothing final =
       subst (λ (m : Option (ℕ × ℕ)). KeepsPromise held arrival call cred now mini form m changed) (sym none)
-      (subst (λ (ns : List ℕ). KeepsPromise held arrival call cred now mini form None ns) (sym nothing) (read_finals_keep_promise held arrival call cred now mini form work is final))
+      (subst (λ (ns : List ℕ). KeepsPromise held arrival call cred now mini form None ns) (sym nothing) (read_finals_keep_promise held arrival call cred now (reading_of held call) mini form work (readings_answer held arrival call cred now work is) final))
 
   pub read_plan : (r : Reading) (p : Plan) → GoesOn held (order held arrival call cred) [] looks → r ≡ reading_of held call → IsFinalOf held looks r p
       → IsPlan held arrival call cred now p

@@ -11,12 +11,12 @@ ghost use Rattle.plan_looks.specs.Live.{IsLive};
 ghost use Rattle.read_laws.specs.Answers.{fattr_by, found_by, lookup_by};
 ghost use Rattle.plan_read.specs.Lookup.{behind_search, directory_steps};
 
-use crate::attr::{fattr_of, ready};
 use fs_checks::{Status, is_dot, is_dot_dot};
 use fs_layout::Attrs;
 use fs_rules::{Cred, SEARCH, handle_of};
 use nfs_proto::{Answer, Handle};
 use node_cache::Held;
+use plan_content::{fattr_of, ready};
 use plan_forms::Reading;
 use plan_looks::{LiveFile, Looks, Stop, look_file, look_name, look_record};
 use std::alloc::Global;

@@ -1,16 +1,16 @@
 ghost use Rattle.std.specs.Prelude.{◌≡◌, ℕ, [], IfOk};
 ghost use Rattle.nfs_proto.specs.declared.stamp.Stamp.{Stamp as AStamp};
 ghost use Rattle.plan_rules.specs.Works.{IsWorkSet};
-ghost use Rattle.read_laws.specs.Answers.{IsReading};
 ghost use Rattle.read_laws.specs.Promise.{IsPlan};
 ghost use Rattle.plan_read.specs.Finals.{IsFinalOf, IsStopped};
+ghost use Rattle.plan_read.specs.Readings.{IsReading};
 
-use crate::attr::ready;
 use crate::procedures::reading;
 use fs_rules::Cred;
 use mini_tx::Numbers;
 use nfs_proto::{Answer, Call, Stamp};
 use node_cache::{Held, NoMemory};
+use plan_content::ready;
 use plan_forms::{Plan, Reading};
 use plan_looks::{Looks, Stop, finished};
 use std::alloc::Global;

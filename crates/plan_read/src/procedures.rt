@@ -2,14 +2,14 @@ ghost use Rattle.std.specs.Prelude.{◌≡◌, ℕ, IfOk};
 ghost use Rattle.plan_rules.specs.Orders.{order};
 ghost use Rattle.plan_rules.specs.Works.{IsWorkSet};
 ghost use Rattle.plan_looks.specs.Goes.{Goes};
-ghost use Rattle.read_laws.specs.Answers.{IsReading, reading_of};
+ghost use Rattle.plan_read.specs.Readings.{IsReading, reading_of};
 
-use crate::attr::get_attr;
 use crate::lookup::lookup;
 use crate::space::stat_fs;
 use fs_rules::Cred;
 use nfs_proto::Call;
 use node_cache::Held;
+use plan_content::{get_attr, read, read_dir, read_link};
 use plan_forms::Reading;
 use plan_looks::{Looks, Stop};
 use std::alloc::Global;
@@ -30,6 +30,16 @@ pub(crate) fn reading(
     match call {
         Call::GetAttr { file } => get_attr(alloc, held, looks, file),
         Call::Lookup { dir, name } => lookup(alloc, held, looks, dir, name.as_slice(), cred),
+        Call::ReadLink { file } => read_link(alloc, held, looks, file),
+        Call::Read {
+            file,
+            offset,
+            count,
+            ..
+        } => read(alloc, held, looks, file, *offset, *count, cred),
+        Call::ReadDir { dir, cookie, count } => {
+            read_dir(alloc, held, looks, dir, *cookie, *count, cred)
+        }
         Call::StatFs { file } => stat_fs(alloc, held, looks, file),
         _ => unreachable!(),
     }

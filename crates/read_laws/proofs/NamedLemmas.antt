@@ -45,7 +45,7 @@ some_there None is = absurd cc
 some_there (Some x) is = (x, refl)
 
 -- a directory's slots name no file 0
-no_zero : (t : PlainTree) (slots : List (Option TreeEntry)) → IsGood t → AreSlots t slots → NameFiles slots
+pub no_zero : (t : PlainTree) (slots : List (Option TreeEntry)) → IsGood t → AreSlots t slots → NameFiles slots
 no_zero t slots good are i e is =
     let live = some_there (table.get t.files e.file) (are.names i e is).1 in
     let number = (good.files e.file live.0 live.1).number in
@@ -55,8 +55,8 @@ no_zero t slots good are i e is =
 module _ (held : Held) (flat : Flat) (t : PlainTree) (o : Owners) (work : IsWorkSet held) (same : held.geometry ≡ t.geometry) (shows : Shows flat t o) (good : IsGood t)
     (n parent : ℕ) (d : File) (slots : List (Option TreeEntry)) (there_is : table.get t.files n ≡ Some d) (content : d.content ≡ Directory slots parent)
     (there : is_held held (want.Inode n) ≡ true) (own : IsOwnFile t.geometry flat o held n) where
-  order : (d.size ≡ 4096 * (length slots / 15)) × AreSlots t slots
-  order =
+  pub in_order : (d.size ≡ 4096 * (length slots / 15)) × AreSlots t slots
+  in_order =
       let is = subst (λ (c : Content). IsInOrder t n d c) content (good.files n d there_is).content in (is.0, is.1)
 
   -- the record is that of the directory
@@ -71,10 +71,10 @@ module _ (held : Held) (flat : Flat) (t : PlainTree) (o : Owners) (work : IsWork
   pub parent_told : at_record held n None (λ a. Some a.parent) ≡ Some parent
   parent_told = says_dir None (λ a. Some a.parent) ∙ ap Some (parent_live d.content refl content)
 
-  groups_told : at_record held n 0 dir_groups ≡ (length slots / 15 + 63) / 64
+  pub groups_told : at_record held n 0 dir_groups ≡ (length slots / 15 + 63) / 64
   groups_told =
       let kind : (live_inode d (o.place n (Chain 0))).kind ≡ 2 = ap kind_of content in
-      let size = order.0 in
+      let size = in_order.0 in
       let count : d.size / 4096 ≡ length slots / 15 = omega (arith, size) in
       says_dir 0 dir_groups ∙ ap (λ k. (cond (k == 2) (d.size / 4096) 0 + 63) / 64) kind ∙ ap (λ b. (b + 63) / 64) count
 
@@ -89,7 +89,7 @@ module _ (held : Held) (flat : Flat) (t : PlainTree) (o : Owners) (work : IsWork
 
   holds_slots : HoldsSlots t.geometry flat (o.place n) slots
   holds_slots =
-      let whole = order.1.whole in
+      let whole = in_order.1.whole in
       record {
         there = λ i. shown.there (Block i) ∙ ap (λ (c : Content). is_stored c i) content;
         holds = λ i p is. subst (λ (c : Content). HoldsBlock c i (block_bytes t.geometry flat p)) content (shown.holds d (Block i) p refl is);
@@ -97,7 +97,7 @@ module _ (held : Held) (flat : Flat) (t : PlainTree) (o : Owners) (work : IsWork
       }
 
   -- a group that is held has the slots of the directory
-  group_own : (g : ℕ) → is_held held (want.Slots n g) ≡ true → group_of held n g ≡ map slot_of (take 960 (drop (960 * g) slots))
+  pub group_own : (g : ℕ) → is_held held (want.Slots n g) ≡ true → group_of held n g ≡ map slot_of (take 960 (drop (960 * g) slots))
   group_own g is =
       let entry = some_there (held_of n held.entries) there in
       let e = entry.0 in
@@ -115,9 +115,9 @@ module _ (held : Held) (flat : Flat) (t : PlainTree) (o : Owners) (work : IsWork
       → found held n name ≡ rules.file_named slots name
   found_told name none =
       let groups = (length slots / 15 + 63) / 64 in
-      let whole = order.1.whole in
+      let whole = in_order.1.whole in
       let none_here : wanted_in held (group_steps held n (list_any (blocks.has_name name)) 0 groups) ≡ None =
       subst (λ k. wanted_in held (group_steps held n (list_any (blocks.has_name name)) 0 k) ≡ None) groups_told none in
       ap (λ k. option_map (λ (s : Slot). s.number) (find (blocks.has_name name) (flat_map (group_of held n) (below k)))) groups_told
       ∙ ap (option_map (λ (s : Slot). s.number)) (found_all held n slots groups group_own (omega (arith, whole)) (blocks.has_name name) none_here)
-      ∙ named_is name slots (no_zero t slots good order.1)
+      ∙ named_is name slots (no_zero t slots good in_order.1)

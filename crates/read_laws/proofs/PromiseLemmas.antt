@@ -1,5 +1,5 @@
 -- A final that reads keeps its promise.
-use Rattle.std.proofs.Common.{arith, ◌≡◌, ℕ, zero, suc, ◌+◌, ◌*◌, ◌≤◌, ◌%◌, length, length-append, true, false, cond, Bool, List, [], ◌∷◌, ◌++◌, Option, Some, None, refl, sym, ap, subst, ◌∙◌}
+use Rattle.std.proofs.Common.{arith, ◌≡◌, ℕ, ◌+◌, ◌%◌, true, false, cond, Bool, IsTrue, List, [], ◌∷◌, ◌++◌, Option, Some, None, refl, sym, ap, subst, ◌∙◌}
 use Rattle.std.specs.Prelude.{All, ◌/◌, nat_eq, drop, map, take, unwrap_or}
 use Rattle.std.specs.Option.{option_map_or}
 use Rattle.std.specs.List.{list_any, AllByRecursion}
@@ -10,10 +10,8 @@ use Rattle.rpc_msg.specs.declared.cred.Cred.{Cred}
 use Rattle.nfs_proto.specs.declared.answer.Answer.{Answer}
 use Rattle.nfs_proto.specs.declared.answer.Answer.TheVariants.{Fault}
 use Rattle.nfs_proto.specs.declared.call.Call.{Call}
-use Rattle.nfs_proto.specs.declared.call.Call.TheVariants as call
 use Rattle.nfs_proto.specs.declared.stamp.Stamp.{Stamp}
 use Rattle.fs_rules.specs.declared.plain_tree.PlainTree.{PlainTree}
-use Rattle.fs_rules.specs.Lists.{below}
 use Rattle.fs_rules.specs.Respond.{Responded, respond}
 use Rattle.mini_tx.specs.declared.item.Item.{Item}
 use Rattle.mini_tx.specs.declared.item.Item.TheVariants as item
@@ -42,16 +40,11 @@ use Rattle.plan_rules.proofs.MatchedLemmas.{matched_looks_are_own}
 use Rattle.plan_rules.proofs.OrderLemmas.{all_looked_at_is_held}
 use Rattle.plan_rules.proofs.SearchLemmas.{found_there}
 use Rattle.plan_forms.specs.declared.form.AnswerForm.{AnswerForm}
-use Rattle.fs_rules.specs.declared.geometry.Geometry.{Geometry}
-use Rattle.fs_rules.specs.Geometry.{IsWithinLimits}
-use Rattle.plan_rules.specs.Fetched.{AreReads, read_items}
+use Rattle.plan_forms.specs.declared.plan.Reading.{Reading}
+use Rattle.plan_rules.specs.Fetched.{AreReads, is_read, read_items}
 use Rattle.plan_forms.specs.Forms.{AreReadsFor, said}
-use Rattle.read_laws.specs.Answers.{IsReading, map_read, reading_of}
 use Rattle.read_laws.specs.Laws.{AnswersAs, IsPlannedOver}
-use Rattle.read_laws.specs.Promise.{Does, IsTrueOf, IsOwnOf, KeepsPromise, IsReadFinal, ReadFinalsKeepPromise}
-use Rattle.read_laws.proofs.AttrLemmas.{get_attr_answers}
-use Rattle.read_laws.proofs.LookupLemmas.{lookup_answers}
-use Rattle.read_laws.proofs.SpaceLemmas.{stat_fs_answers}
+use Rattle.read_laws.specs.Promise.{AnswersCall, Does, IsTrueOf, IsOwnOf, KeepsPromise, IsReadFinal, ReadFinalsKeepPromise}
 use Rattle.read_laws.proofs.MatchLemmas.{all_parts, joined, own_looks_match, page_at}
 
 -- ---- items that compare, and items that do not write
@@ -117,78 +110,29 @@ all_compare held looks =
 
 -- ---- the items of a reading
 
-map_reads_no_write : (held : Held) (ms : List ℕ) → AllByRecursion IsNoWrite (map (map_read held.geometry) ms)
-map_reads_no_write held [] = tt
-map_reads_no_write held (m ∷ ms) = (tt, map_reads_no_write held ms)
+no_write_by : (i : Item) → IsTrue (is_read i) → IsNoWrite i
+no_write_by (item.Compare memory at bytes) is = tt
+no_write_by (item.Read memory at len) is = tt
+no_write_by (item.Write memory at bytes) is = absurd (let never : false ≡ true = is in cc)
 
-map_reads_match : (held : Held) (flat : Flat) (ms : List ℕ) → AllByRecursion (ItemMatches flat) (map (map_read held.geometry) ms)
-map_reads_match held flat [] = tt
-map_reads_match held flat (m ∷ ms) = (tt, map_reads_match held flat ms)
+reads_no_write : (items : List Item) → AllByRecursion (λ i. IsTrue (is_read i)) items → AllByRecursion IsNoWrite items
+reads_no_write [] all = tt
+reads_no_write (i ∷ items) all = (no_write_by i all.0, reads_no_write items all.1)
 
-reading_no_write : (held : Held) (c : Call) → IsReading c → AllByRecursion IsNoWrite (reading_of held c).items
-reading_no_write held (call.GetAttr file) is = tt
-reading_no_write held (call.Lookup dir name) is = tt
-reading_no_write held (call.StatFs file) is = map_reads_no_write held (below held.geometry.memories)
-reading_no_write held _ is = tt
+match_by : (flat : Flat) (i : Item) → IsTrue (is_read i) → ItemMatches flat i
+match_by flat (item.Compare memory at bytes) is = absurd (let never : false ≡ true = is in cc)
+match_by flat (item.Read memory at len) is = tt
+match_by flat (item.Write memory at bytes) is = tt
 
-reading_matches : (held : Held) (flat : Flat) (c : Call) → IsReading c → AllByRecursion (ItemMatches flat) (reading_of held c).items
-reading_matches held flat (call.GetAttr file) is = tt
-reading_matches held flat (call.Lookup dir name) is = tt
-reading_matches held flat (call.StatFs file) is = map_reads_match held flat (below held.geometry.memories)
-reading_matches held flat _ is = tt
-
--- ---- reads that are as many and as long
+reads_match : (flat : Flat) (items : List Item) → AllByRecursion (λ i. IsTrue (is_read i)) items → AllByRecursion (ItemMatches flat) items
+reads_match flat [] all = tt
+reads_match flat (i ∷ items) all = (match_by flat i all.0, reads_match flat items all.1)
 
 compares_read_none : (items others : List Item) → AllByRecursion Compares items → read_items (items ++ others) ≡ read_items others
 compares_read_none [] others all = refl
 compares_read_none (item.Compare memory at bytes ∷ items) others all = compares_read_none items others all.1
 compares_read_none (item.Read memory at len ∷ items) others all = absurd all.0
 compares_read_none (item.Write memory at bytes ∷ items) others all = absurd all.0
-
-maps_all_read : (g : Geometry) (ms : List ℕ) → read_items (map (map_read g) ms) ≡ map (map_read g) ms
-maps_all_read g [] = refl
-maps_all_read g (m ∷ ms) = ap (λ is. map_read g m ∷ is) (maps_all_read g ms)
-
-length_below : (n : ℕ) → length (below n) ≡ n
-unfolding below
-length_below zero = refl
-length_below (suc n) = let rest = length_below n in omega (arith, rest, length-append (below n) (n ∷ []))
-
-as_many : (g : Geometry) (rs : List (List ℕ)) (ms : List ℕ) → map length rs ≡ map bytes_of (map (map_read g) ms) → length rs ≡ length ms
-as_many g [] [] all = refl
-as_many g [] (m ∷ ms) all = absurd cc
-as_many g (r ∷ rs) [] all = absurd cc
-as_many g (r ∷ rs) (m ∷ ms) all = let rest : map length rs ≡ map bytes_of (map (map_read g) ms) = cc in ap suc (as_many g rs ms rest)
-
-as_long : (g : Geometry) (rs : List (List ℕ)) (ms : List ℕ) → map length rs ≡ map bytes_of (map (map_read g) ms) → AllByRecursion (λ r. g.blocks ≤ 8 * length r) rs
-as_long g [] ms all = tt
-as_long g (r ∷ rs) [] all = absurd cc
-as_long g (r ∷ rs) (m ∷ ms) all =
-    let first : length r ≡ (g.blocks + 7) / 8 = cc in
-    let rest : map length rs ≡ map bytes_of (map (map_read g) ms) = cc in
-    (omega (arith, first), as_long g rs ms rest)
-
-reading_fits : (held : Held) (c : Call) → IsReading c → IsWithinLimits held.geometry → (rs : List (List ℕ))
-    → map length rs ≡ map bytes_of (read_items (reading_of held c).items) → AreReadsFor (reading_of held c).form rs
-reading_fits held (call.GetAttr file) is limits rs all = tt
-reading_fits held (call.Lookup dir name) is limits rs all = tt
-reading_fits held (call.StatFs file) is limits rs all =
-    let g = held.geometry in
-    let each : map length rs ≡ map bytes_of (map (map_read g) (below g.memories)) = all ∙ ap (map bytes_of) (maps_all_read g (below g.memories)) in
-    record {
-      limits = limits;
-      each = as_many g rs (below g.memories) each ∙ length_below g.memories;
-      whole = All-from_recursion (λ r. g.blocks ≤ 8 * length r) rs (as_long g rs (below g.memories) each);
-    }
-reading_fits held _ is limits rs all = absurd is
-
--- each procedure answers as the rules do
-answers_as : (held : Held) (flat : Flat) (t : PlainTree) (o : Owners) (arrival : ℕ) (c : Call) (cred : Cred) (now : Stamp) (start : ℕ) → IsReading c
-    → IsPlannedOver held flat t o arrival c cred → AnswersAs held flat t arrival c cred now start (reading_of held c)
-answers_as held flat t o arrival (call.GetAttr file) cred now start is over = get_attr_answers held flat t o arrival cred now start file over
-answers_as held flat t o arrival (call.Lookup dir name) cred now start is over = lookup_answers held flat t o arrival cred now start dir name over
-answers_as held flat t o arrival (call.StatFs file) cred now start is over = stat_fs_answers held flat t o arrival cred now start file over
-answers_as held flat t o arrival _ cred now start is over = absurd is
 
 -- ---- what a final does that leaves the tree
 
@@ -209,8 +153,8 @@ split : {X : Type 0} (P : X → Type 0) (xs ys : List X) → AllByRecursion P (x
 split P [] ys all = tt
 split P (x ∷ xs) ys all = (all.0, split P xs ys all.1)
 
-module _ (held : Held) (arrival : ℕ) (c : Call) (cred : Cred) (now : Stamp) (mini : List Item) (form : AnswerForm) (work : IsWorkSet held) (reading : IsReading c)
-    (final : IsReadFinal held arrival c cred mini form) where
+module _ (held : Held) (arrival : ℕ) (c : Call) (cred : Cred) (now : Stamp) (reading : Reading) (mini : List Item) (form : AnswerForm) (work : IsWorkSet held)
+    (of : AnswersCall held arrival c cred now reading) (final : IsReadFinal held arrival c cred reading mini form) where
   abbrev steps : List Step
   steps = order held arrival c cred
 
@@ -218,7 +162,10 @@ module _ (held : Held) (arrival : ℕ) (c : Call) (cred : Cred) (now : Stamp) (m
   looks = looked_at held arrival c cred
 
   abbrev more : List Item
-  more = (reading_of held c).items
+  more = reading.items
+
+  only_reads : AllByRecursion (λ i. IsTrue (is_read i)) more
+  only_reads = recursion_from_All (λ i. IsTrue (is_read i)) more of.reads
 
   held_all : All (λ l. is_held held (part_of l) ≡ true) looks
   held_all = all_looked_at_is_held held steps final.wanted
@@ -249,8 +196,8 @@ module _ (held : Held) (arrival : ℕ) (c : Call) (cred : Cred) (now : Stamp) (m
     abbrev r : Responded
     r = respond t c cred now (arrival % t.geometry.memories)
 
-    answers_here : AnswersAs held flat t arrival c cred now (arrival % t.geometry.memories) (reading_of held c)
-    answers_here = answers_as held flat t o arrival c cred now (arrival % t.geometry.memories) reading over
+    answers_here : AnswersAs held flat t arrival c cred now (arrival % t.geometry.memories) reading
+    answers_here = of.answers flat t o over
 
     does_by : (p : Option ℕ) → refusal_in steps ≡ p → Does flat t r mini form None []
     does_by (Some status) is =
@@ -260,12 +207,12 @@ module _ (held : Held) (arrival : ℕ) (c : Call) (cred : Cred) (now : Stamp) (m
         (ap (λ (f : AnswerForm). said f (reads mini flat)) made.1) (answers_here.refused status is)
     does_by None is =
         let made = final.answers is in
-        let told : said form (reads mini flat) ≡ said (reading_of held c).form (reads more flat) =
+        let told : said form (reads mini flat) ≡ said reading.form (reads more flat) =
         ap (λ (f : AnswerForm). said f (reads mini flat)) made.1
-        ∙ ap (λ rs. said (reading_of held c).form rs) (ap (λ (items : List Item). reads items flat) made.0 ∙ reads_behind flat (compares held looks) more (all_compare held looks)) in
-        told_does flat t of_it.stands r mini form (said (reading_of held c).form (reads more flat))
+        ∙ ap (λ rs. said reading.form rs) (ap (λ (items : List Item). reads items flat) made.0 ∙ reads_behind flat (compares held looks) more (all_compare held looks)) in
+        told_does flat t of_it.stands r mini form (said reading.form (reads more flat))
         (subst (λ (items : List Item). AllByRecursion IsNoWrite items) (sym made.0)
-        (joined IsNoWrite (compares held looks) more (compares_no_write (compares held looks) (all_compare held looks)) (reading_no_write held c reading)))
+        (joined IsNoWrite (compares held looks) more (compares_no_write (compares held looks) (all_compare held looks)) (reads_no_write more only_reads)))
         told (answers_here.answers is)
 
     does : Does flat t r mini form None []
@@ -313,13 +260,13 @@ module _ (held : Held) (arrival : ℕ) (c : Call) (cred : Cred) (now : Stamp) (m
     matches_by None is =
         subst (λ (items : List Item). Matches items flat) (sym (final.answers is).0)
         (All-from_recursion (ItemMatches flat) (compares held looks ++ more)
-        (joined (ItemMatches flat) (compares held looks) more first_matches (reading_matches held flat c reading)))
+        (joined (ItemMatches flat) (compares held looks) more first_matches (reads_match flat more only_reads)))
 
   fits_by : (q : Option ℕ) → refusal_in steps ≡ q → (rs : List (List ℕ)) → AreReads mini rs → AreReadsFor form rs
   fits_by (Some status) is rs all = subst (λ (f : AnswerForm). AreReadsFor f rs) (sym (final.refused status is).1) tt
   fits_by None is rs all =
       subst (λ (f : AnswerForm). AreReadsFor f rs) (sym (final.answers is).1)
-      (reading_fits held c reading work.limits rs
+      (of.fits rs
       (all ∙ ap (λ (items : List Item). map bytes_of (read_items items)) (final.answers is).0
       ∙ ap (map bytes_of) (compares_read_none (compares held looks) more (all_compare held looks))))
 
@@ -327,4 +274,4 @@ module _ (held : Held) (arrival : ℕ) (c : Call) (cred : Cred) (now : Stamp) (m
   keeps = record { does = does; matches = λ flat t of_it. matches_by flat t of_it (refusal_in steps) refl; fits = fits_by (refusal_in steps) refl }
 
 pub read_finals_keep_promise : ReadFinalsKeepPromise
-read_finals_keep_promise held arrival c cred now mini form work reading final = keeps held arrival c cred now mini form work reading final
+read_finals_keep_promise held arrival c cred now r mini form work of final = keeps held arrival c cred now r mini form work of final

@@ -2,13 +2,11 @@
 use Rattle.std.specs.Prelude.{ℕ, ◌+◌, ◌-◌, ◌*◌, ◌/◌, ◌^◌, ◌==◌, min, if◌then◌else◌, List, [], map}
 use Rattle.std.specs.Option.{option_map_or}
 use Rattle.nfs_proto.specs.declared.answer.Answer.{Answer}
-use Rattle.nfs_proto.specs.declared.answer.Answer.TheVariants.{Empty, Fault, Attr, Found}
-use Rattle.nfs_proto.specs.declared.call.Call.{Call}
-use Rattle.nfs_proto.specs.declared.call.Call.TheVariants as call
+use Rattle.nfs_proto.specs.declared.answer.Answer.TheVariants.{Fault, Attr, Found}
 use Rattle.nfs_proto.specs.declared.fattr.Fattr.{Fattr}
 use Rattle.fs_layout.specs.declared.attrs.Attrs.{Attrs}
 use Rattle.fs_rules.specs.declared.geometry.Geometry.{Geometry}
-use Rattle.fs_rules.specs.Handle.{handle, number_in}
+use Rattle.fs_rules.specs.Handle.{handle}
 use Rattle.fs_rules.specs.Lists.{below}
 use Rattle.fs_rules.specs.Statuses.{noent, stale}
 use Rattle.mini_tx.specs.declared.item.Item.{Item}
@@ -71,47 +69,3 @@ found_by held m =
 
 abbrev pub lookup_by : Held → ℕ → List ℕ → Reading
 lookup_by held n name = ready (option_map_or (found_by held) (target held n name) (Fault noent))
-
--- ---- all of them
-
--- the calls of these procedures
-abbrev pub IsReading : Call → Type 0
-IsReading call.Null = ⊥
-IsReading (call.GetAttr file) = Unit {0}
-IsReading (call.SetAttr file set) = ⊥
-IsReading call.Root = ⊥
-IsReading (call.Lookup dir name) = Unit {0}
-IsReading (call.ReadLink file) = ⊥
-IsReading (call.Read file offset count total) = ⊥
-IsReading call.WriteCache = ⊥
-IsReading (call.Write file begin offset total bytes) = ⊥
-IsReading (call.Create dir name set) = ⊥
-IsReading (call.Remove dir name) = ⊥
-IsReading (call.Rename from from_name to to_name) = ⊥
-IsReading (call.Link file dir name) = ⊥
-IsReading (call.SymLink dir name path set) = ⊥
-IsReading (call.MakeDir dir name set) = ⊥
-IsReading (call.RemoveDir dir name) = ⊥
-IsReading (call.ReadDir dir cookie count) = ⊥
-IsReading (call.StatFs file) = Unit {0}
-
--- what a call reads and answers: of another procedure nothing is said
-abbrev pub reading_of : Held → Call → Reading
-reading_of held call.Null = ready Empty
-reading_of held (call.GetAttr file) = get_attr_by held (number_in file.0)
-reading_of held (call.SetAttr file set) = ready Empty
-reading_of held call.Root = ready Empty
-reading_of held (call.Lookup dir name) = lookup_by held (number_in dir.0) name
-reading_of held (call.ReadLink file) = ready Empty
-reading_of held (call.Read file offset count total) = ready Empty
-reading_of held call.WriteCache = ready Empty
-reading_of held (call.Write file begin offset total bytes) = ready Empty
-reading_of held (call.Create dir name set) = ready Empty
-reading_of held (call.Remove dir name) = ready Empty
-reading_of held (call.Rename from from_name to to_name) = ready Empty
-reading_of held (call.Link file dir name) = ready Empty
-reading_of held (call.SymLink dir name path set) = ready Empty
-reading_of held (call.MakeDir dir name set) = ready Empty
-reading_of held (call.RemoveDir dir name) = ready Empty
-reading_of held (call.ReadDir dir cookie count) = ready Empty
-reading_of held (call.StatFs file) = stat_fs_by held.geometry

@@ -1,5 +1,5 @@
 -- What a plan promises.
-use Rattle.std.specs.Prelude.{◌≡◌, ◌≢◌, ℕ, ◌%◌, ◌==◌, true, false, List, [], ◌++◌, slice_get, Option, Some, None}
+use Rattle.std.specs.Prelude.{◌≡◌, ◌≢◌, ℕ, ◌%◌, ◌==◌, true, false, IsTrue, List, [], ◌++◌, slice_get, All, Option, Some, None}
 use Rattle.std.specs.List.{list_any}
 use Rattle.std.specs.FinMap as table
 use Rattle.rpc_msg.specs.declared.cred.Cred.{Cred}
@@ -11,12 +11,13 @@ use Rattle.fs_rules.specs.Respond.{Responded, respond}
 use Rattle.mini_tx.specs.declared.item.Item.{Item}
 use Rattle.mini_tx.specs.Minitransactions.{is_write}
 use Rattle.mini_tx.specs.FlatMemory.{Flat, Matches, after, held_by, bytes_at, reads}
+use Rattle.fs_image.specs.Owners.{Owners}
 use Rattle.fs_image.specs.Stands.{Stands}
 use Rattle.node_cache.specs.declared.entry.Entry.{Entry}
 use Rattle.node_cache.specs.declared.held.Held.{Held}
 use Rattle.node_cache.specs.Truth.{IsOwn}
 use Rattle.plan_rules.specs.Compared.{compares}
-use Rattle.plan_rules.specs.Fetched.{AreReads}
+use Rattle.plan_rules.specs.Fetched.{AreReads, is_read}
 use Rattle.plan_rules.specs.Matched.{AreTrue}
 use Rattle.plan_rules.specs.Orders.{order, looked_at, wanted}
 use Rattle.plan_rules.specs.Steps.{refusal_in}
@@ -25,8 +26,9 @@ use Rattle.plan_forms.specs.declared.form.AnswerForm.{AnswerForm}
 use Rattle.plan_forms.specs.declared.form.AnswerForm.TheVariants.{Ready}
 use Rattle.plan_forms.specs.declared.plan.Plan.{Plan}
 use Rattle.plan_forms.specs.declared.plan.Plan.TheVariants.{Need, Final}
+use Rattle.plan_forms.specs.declared.plan.Reading.{Reading}
 use Rattle.plan_forms.specs.Forms.{AreReadsFor, said}
-use Rattle.read_laws.specs.Answers.{IsReading, reading_of}
+use Rattle.read_laws.specs.Laws.{AnswersAs, IsPlannedOver}
 
 -- ---- what a final does to a flat memory
 
@@ -72,14 +74,23 @@ IsPlan held arrival call cred now (Final mini form made changed) =
 
 -- ---- what a reading procedure makes
 
+-- a reading answers a call as the rules do, over each flat memory of which what is looked at is held as it is; it only reads, and
+-- what is as much and as long as it reads makes its answer
+pub record AnswersCall (held : Held) (arrival : ℕ) (call : Call) (cred : Cred) (now : Stamp) (r : Reading) : Type 0 where
+  pub answers : (flat : Flat) (t : PlainTree) (o : Owners) → IsPlannedOver held flat t o arrival call cred
+      → AnswersAs held flat t arrival call cred now (arrival % t.geometry.memories) r
+  pub reads : All (λ i. IsTrue (is_read i)) r.items
+  pub fits : (rs : List (List ℕ)) → AreReads r.items rs → AreReadsFor r.form rs
+
 -- the final of a call that reads: it compares what was looked at, and where no check fails it reads
-pub record IsReadFinal (held : Held) (arrival : ℕ) (call : Call) (cred : Cred) (mini : List Item) (form : AnswerForm) : Type 0 where
+pub record IsReadFinal (held : Held) (arrival : ℕ) (call : Call) (cred : Cred) (r : Reading) (mini : List Item) (form : AnswerForm) : Type 0 where
   pub wanted : wanted held arrival call cred ≡ None
   pub refused : (status : ℕ) → refusal_in (order held arrival call cred) ≡ Some status
       → (mini ≡ compares held (looked_at held arrival call cred)) × (form ≡ Ready (Fault status))
   pub answers : refusal_in (order held arrival call cred) ≡ None
-      → (mini ≡ compares held (looked_at held arrival call cred) ++ (reading_of held call).items) × (form ≡ (reading_of held call).form)
+      → (mini ≡ compares held (looked_at held arrival call cred) ++ r.items) × (form ≡ r.form)
 
 abbrev pub ReadFinalsKeepPromise : Type 0
-ReadFinalsKeepPromise = (held : Held) (arrival : ℕ) (call : Call) (cred : Cred) (now : Stamp) (mini : List Item) (form : AnswerForm)
-    → IsWorkSet held → IsReading call → IsReadFinal held arrival call cred mini form → KeepsPromise held arrival call cred now mini form None []
+ReadFinalsKeepPromise = (held : Held) (arrival : ℕ) (call : Call) (cred : Cred) (now : Stamp) (r : Reading) (mini : List Item) (form : AnswerForm)
+    → IsWorkSet held → AnswersCall held arrival call cred now r → IsReadFinal held arrival call cred r mini form
+    → KeepsPromise held arrival call cred now mini form None []

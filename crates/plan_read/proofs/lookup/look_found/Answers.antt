@@ -6,8 +6,9 @@ use Rattle.plan_rules.specs.Steps.{Step, Looks as look_at, Checks}
 use Rattle.plan_looks.specs.declared.stop.Stop.{Stop}
 use Rattle.plan_looks.specs.Goes.{IsRefused}
 use Rattle.plan_looks.proofs.GoesLemmas.{goes_behind, goes_same, same_steps}
+use Rattle.plan_content.proofs.GoLemmas.{ends_at}
 use Rattle.plan_read.specs.Lookup.{behind_search}
-use Rattle.plan_read.proofs.LookupLemmas.{check_passes, ends_at, none_behind, some_behind}
+use Rattle.plan_read.proofs.LookupLemmas.{check_passes, none_behind, some_behind}
 use Rattle.plan_read.proofs.lookup.look_found.Goals as goal
 
 pub returns-in_err-attrs-in-Some-clause-goes : goal.returns-in_err-attrs-in-Some-clause-goes

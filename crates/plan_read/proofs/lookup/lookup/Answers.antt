@@ -4,8 +4,8 @@ use Rattle.fs_rules.specs.Handle.{number_in}
 use Rattle.plan_rules.specs.Orders.{lookup_steps}
 use Rattle.plan_looks.specs.declared.stop.Stop.{Stop}
 use Rattle.plan_looks.proofs.GoesLemmas.{goes_behind, stops_at}
+use Rattle.plan_content.proofs.GoLemmas.{ends_at}
 use Rattle.plan_read.specs.Lookup.{directory_steps}
-use Rattle.plan_read.proofs.LookupLemmas.{ends_at}
 use Rattle.plan_read.proofs.lookup.lookup.Goals as goal
 
 pub returns-in_err-live-clause-goes : goal.returns-in_err-live-clause-goes

@@ -19,7 +19,7 @@ const FSID: u32 = 1;
 const UNITS_PER_BLOCK: u32 = 8;
 
 /// GETATTR: what a client is told of the file (RFC 1094, section 2.2.2).
-pub(crate) fn get_attr(
+pub fn get_attr(
     alloc: Global,
     held: &Held,
     looks: &mut Looks,
@@ -33,7 +33,7 @@ pub(crate) fn get_attr(
 }
 
 /// An answer that reads nothing.
-pub(crate) fn ready(alloc: Global, answer: Answer) -> Reading
+pub fn ready(alloc: Global, answer: Answer) -> Reading
     ensures { result ≡ ready answer }
 {
     Reading {
@@ -43,7 +43,7 @@ pub(crate) fn ready(alloc: Global, answer: Answer) -> Reading
 }
 
 /// What a client is told of the file with this number and record (RFC 1094, section 2.3.5).
-pub(crate) fn fattr_of(number: u32, attrs: Attrs) -> Fattr
+pub fn fattr_of(number: u32, attrs: Attrs) -> Fattr
     ensures { result ≡ fattr_by number attrs }
 {
     Fattr {

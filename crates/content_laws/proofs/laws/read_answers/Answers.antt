@@ -1,0 +1,5 @@
+use Rattle.content_laws.proofs.PartLemmas.{read_answers}
+use Rattle.content_laws.proofs.laws.read_answers.Goals as goal
+
+pub returns : goal.returns
+returns c = read_answers

@@ -1,0 +1,3 @@
+pub mod GoLemmas
+pub mod BlockLemmas
+pub mod ListingLemmas
