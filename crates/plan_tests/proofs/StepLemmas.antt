@@ -1,5 +1,5 @@
 -- Items that lie within a flat memory, and what they read.
-use Rattle.std.proofs.Common.{◌≡◌, ℕ, ◌+◌, ◌-◌, ◌<◌, ◌≤◌, true, false, Bool, List, [], ◌∷◌, length, map, drop, Option, Some, None, refl, sym, ap, ◌∙◌, arith, length-take, length-drop}
+use Rattle.std.proofs.Common.{◌≡◌, ℕ, ◌+◌, ◌-◌, ◌<◌, ◌≤◌, true, false, Bool, List, [], ◌∷◌, length, map, drop, Option, Some, None, refl, ap, ◌∙◌, arith, length-take, length-drop}
 use Rattle.std.specs.Prelude.{All, ◌&&◌, nat_le, slice_get}
 use Rattle.std.specs.Option.{option_map_or}
 use Rattle.std.specs.List.{AllByRecursion, list_all}
@@ -10,8 +10,8 @@ use Rattle.mini_tx.specs.declared.item.Item.{Item}
 use Rattle.mini_tx.specs.declared.item.Item.TheVariants as item
 use Rattle.mini_tx.specs.FlatMemory.{Flat, IsWithin, bytes_at, held_by, reads}
 use Rattle.mini_tx.specs.Minitransactions.{memory_of, place_of, bytes_of}
-use Rattle.plan_rules.specs.Fetched.{AreReads, read_items}
-use Rattle.plan_tests.specs.Within.{fits, is_within}
+use Rattle.plan_rules.specs.Fetched.{AreReads}
+use Rattle.plan_tests.specs.Within.{is_within}
 
 both_true : (a b : Bool) → a && b ≡ true → (a ≡ true) × (b ≡ true)
 both_true true b is = (refl, is)

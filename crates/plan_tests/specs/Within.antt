@@ -1,5 +1,5 @@
 -- Whether an item lies within a flat memory.
-use Rattle.std.specs.Prelude.{ℕ, ◌-◌, nat_le, Bool, false, ◌&&◌, List, length, slice_get}
+use Rattle.std.specs.Prelude.{ℕ, ◌-◌, nat_le, Bool, false, ◌&&◌, length, slice_get}
 use Rattle.std.specs.Option.{option_map_or}
 use Rattle.mini_tx.specs.declared.item.Item.{Item}
 use Rattle.mini_tx.specs.FlatMemory.{Flat}
