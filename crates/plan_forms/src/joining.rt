@@ -9,13 +9,27 @@ use std::alloc::Global;
 pub(crate) fn joined(alloc: Global, pieces: &[Piece], reads: &[Bytes]) -> Result<Bytes, NoMemory>
     ensures { IfOk result (λ bytes. bytes ≡ joined pieces.now reads.now) }
 {
-    let mut bytes = Vec::new(alloc);
+    let mut bytes = Vec::with_capacity(alloc, room_for(pieces, reads))?;
     let mut taken = 0;
     for piece in pieces {
         push_piece(&mut bytes, *piece, reads, taken)?;
         taken += reads_of(*piece);
     }
     Ok(Bytes::from(bytes))
+}
+
+// How many bytes they have, as far as a number tells it: so that no byte is copied again while they are joined.
+fn room_for(pieces: &[Piece], reads: &[Bytes]) -> usize {
+    let mut room = 0usize;
+    for piece in pieces {
+        if let Piece::Zeros(count) = piece {
+            room = room.saturating_add(*count as usize);
+        }
+    }
+    for bytes in reads {
+        room = room.saturating_add(bytes.len());
+    }
+    room
 }
 
 // How many reads a piece takes.

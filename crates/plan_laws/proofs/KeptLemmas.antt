@@ -1,10 +1,10 @@
 -- A work set stays in order.
-use Rattle.std.proofs.Common.{◌≡◌, ◌⊎◌, inl, inr, ℕ, zero, suc, true, false, cond, Bool, List, [], ◌∷◌, ◌++◌, length, Option, Some, refl, sym, ap, subst, ◌∙◌}
-use Rattle.std.specs.Prelude.{nat_eq, nat_le, map, slice_get, slice_set, slice_index}
+use Rattle.std.proofs.Common.{◌≡◌, ◌⊎◌, inl, inr, ℕ, zero, suc, true, false, cond, Bool, List, [], ◌∷◌, ◌++◌, length, replicate, Option, Some, None, refl, sym, ap, subst, ◌∙◌}
+use Rattle.std.specs.Prelude.{nat_eq, map, slice_get, slice_set, slice_index}
 use Rattle.std.specs.List.{AllByRecursion}
 use Rattle.std.specs.List.Sorted.{IsStrictlyIncreasing}
 use Rattle.std.proofs.lemmas.Bool.{eqb-true}
-use Rattle.std.proofs.lemmas.List.{length-set}
+use Rattle.std.proofs.lemmas.List.{length-replicate, length-set}
 use Rattle.fs_rules.specs.declared.geometry.Geometry.{Geometry}
 use Rattle.node_cache.specs.declared.entry.Entry.{Entry}
 use Rattle.node_cache.specs.declared.entry.HeldChain.{HeldChain}
@@ -16,7 +16,7 @@ use Rattle.plan_rules.specs.Fits.{IsFitChain, AreFitSlots}
 use Rattle.plan_rules.specs.Fetched.{changed_in, put_entry, fetched, AreReads, IsRecordKept, IsChainKept, IsGroupKept, AreMapsKept}
 use Rattle.plan_rules.specs.Works.{IsFitEntry, IsTold, IsWorkSet}
 use Rattle.plan_rules.proofs.SearchLemmas.{found_there}
-use Rattle.plan_laws.specs.Kept.{KeptIsInOrder}
+use Rattle.plan_laws.specs.Kept.{EmptyIsInOrder, KeptIsInOrder}
 use Rattle.plan_laws.proofs.AscendingLemmas.{ascends, is_up, numbers, put_ascends}
 use Rattle.plan_laws.proofs.EntryLemmas.{added, all_changed, all_put, at_place, by_place, none_there}
 
@@ -28,6 +28,21 @@ same_numbers n change same (e ∷ es) = by (nat_eq n e.number) (same_numbers n c
     by : (b : Bool) → numbers (changed_in n change es) ≡ numbers es → numbers (cond b (change e ∷ es) (e ∷ changed_in n change es)) ≡ numbers (e ∷ es)
     by true rest = ap (λ k. k ∷ numbers es) (same e)
     by false rest = ap (λ ks. e.number ∷ ks) rest
+
+no_page : (n m : ℕ) (page : List ℕ) → slice_get (replicate n None) m ≡ Some (Some page) → ⊥
+no_page zero m page is = none_there m (Some page) is
+no_page (suc n) zero page is = absurd cc
+no_page (suc n) (suc m) page is = no_page n m page is
+
+pub empty_is_in_order : EmptyIsInOrder
+empty_is_in_order g limits =
+    record {
+      limits = limits;
+      ascending = is_up [] tt;
+      entries = λ i e is. absurd (none_there i e is);
+      places = length-replicate g.memories None;
+      pages = λ m page is. absurd (no_page g.memories m page is);
+    }
 
 -- entries in order
 module _ (held : Held) (work : IsWorkSet held) where
