@@ -11,7 +11,7 @@ pub struct Memories<D: Disk> {
 }
 
 impl<D: Disk> Memories<D> {
-    ghost use Rattle.std.specs.Prelude.{◌≡◌, ◌<◌, ◌++◌, [], ◌∷◌, ℕ, List, length, slice_get, slice_set, Some, IfOk, OnOk, OnErr};
+    ghost use Rattle.std.specs.Prelude.{◌≡◌, ◌<◌, ◌++◌, [], ◌∷◌, ℕ, List, length, slice_get, slice_set, option_to_list, Some, IfOk, IfErr, IfNone, OnOk, OnErr};
     ghost use Rattle.link_model.specs.Links.{numbered};
     ghost use Rattle.mini_tx.specs.declared.geometry.Geometry4.{Geometry4};
     ghost use Rattle.mini_tx.specs.declared.posted.Posted.{Posted};
@@ -32,6 +32,26 @@ impl<D: Disk> Memories<D> {
         Memories {
             slots: Vec::new(alloc),
         }
+    }
+
+    /// The next memory node. A refused call hands it back: there is no memory, and all is as before.
+    pub fn push(&mut self, slot: MemorySlot<D>) -> Result<(), MemorySlot<D>>
+        ensures ok { OnOk result (slots_in self.new ≡ slots_in self.old ++ slot ∷ []) }
+        ensures err { OnErr result (slots_in self.new ≡ slots_in self.old) }
+        ensures back { IfErr result (λ refused. refused ≡ slot) }
+    {
+        match self.slots.push(slot) {
+            Ok(()) => Ok(()),
+            Err(refused) => Err(refused.value),
+        }
+    }
+
+    /// Takes the last memory node away, where there is one. It takes no memory.
+    pub fn pop(&mut self) -> Option<MemorySlot<D>>
+        ensures last { slots_in self.old ≡ slots_in self.new ++ option_to_list result }
+        ensures none { IfNone result (slots_in self.old ≡ []) }
+    {
+        self.slots.pop()
     }
 
     /// How many there are. It takes no memory.

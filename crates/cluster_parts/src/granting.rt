@@ -69,7 +69,7 @@ fn is_granting(vote: &Vote) -> bool
 }
 
 /// Whether an answer is a Granted vote.
-fn is_granted_vote(answer: &Option<Message>) -> bool
+pub fn is_granted_vote(answer: &Option<Message>) -> bool
     ensures { result ≡ is_grant answer.now }
 {
     match answer {

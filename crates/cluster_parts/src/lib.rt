@@ -12,5 +12,5 @@ mod memory_slot;
 
 pub use book::Book;
 pub use delivered::{Delivered, DownCause, Handled};
-pub use granting::{grants, is_change, may_grant};
+pub use granting::{grants, is_change, is_granted_vote, may_grant};
 pub use memory_slot::MemorySlot;

@@ -5,7 +5,10 @@ use Rattle.std.specs.Result.{IfOk}
 use Rattle.std.proofs.Math.Path.{fun_ext}
 use Rattle.std.proofs.lemmas.List.{append-nil}
 use Rattle.std.proofs.lemmas.Result.{IfOk-weaker}
+use Rattle.disk_model.specs.Crash.{History}
 use Rattle.disk_model.specs.declared.disk.Disk.{Ghosts}
+use Rattle.disk_model.specs.Health.{Health}
+use Rattle.link_model.specs.Links.{numbered}
 use Rattle.mini_tx.specs.declared.actor.Actor.{Actor}
 use Rattle.mini_tx.specs.declared.actor.Actor.TheVariants.{Memory}
 use Rattle.mini_tx.specs.declared.geometry.Geometry4.{Geometry4}
@@ -35,9 +38,11 @@ use Rattle.cluster_parts.specs.declared.delivered.DownCause.TheVariants.{Stop, F
 use Rattle.cluster_parts.specs.declared.delivered.Handled as fate
 use Rattle.cluster_parts.specs.declared.delivered.Handled.TheVariants.{Answered, Fell}
 use Rattle.cluster_parts.specs.declared.memory_slot.MemorySlot.{MemorySlot}
-use Rattle.cluster_memories.specs.Memories.{AreAt, setup_for}
+use Rattle.cluster_memories.specs.Memories.{AreAt, AreRested, setup_for}
 use Rattle.cluster_memories.proofs.MemoryLemmas.{got}
-use Rattle.cluster_steps.specs.Live.{AreSeated, IsLive, Settles, how_of}
+use Rattle.cluster_memories.proofs.RestLemmas.{rested_more}
+use Rattle.cluster_steps.specs.Live.{AreSeated, Goes, IsLive, Settles, how_of, vote_from, vote_number}
+use Rattle.cluster_steps.specs.declared.went.Went.{Went}
 
 not_both : (b : Bool) → b ≡ true → b ≡ false → ⊥
 not_both true is other = absurd cc
@@ -155,55 +160,112 @@ module _ {D : Type 0} {G : Ghosts D} (size : ℕ) (g : Geometry4) (old new : Lis
 
     -- ---- each of these
 
-    settled : (handled : fate.Handled) (went : Delivered) → AreAt g new (slice_set story.sites m (site_after k n x handled)) → Answers n x handled
-        → Settles before now mid book m from may handled went → IsLive g new nodes now book (delivered story k (how_of went))
-    settled (Answered answer) went at answers settles =
-        subst (λ (d : Delivered). IsLive g new nodes now book (delivered story k (how_of d))) (sym settles.0)
-        (answered_live answer answers at settles.1 settles.2 settles.3)
-    settled (Fell Stop) went at answers settles =
-        subst (λ (d : Delivered). IsLive g new nodes now book (delivered story k (how_of d))) (sym settles.0)
-        (fell_live steps.WentDown (Down n (Some k)) (delivery steps.WentDown (Some (Up n)) site) at settles.1 settles.2)
-    settled (Fell Fault) went at answers settles =
-        subst (λ (d : Delivered). IsLive g new nodes now book (delivered story k (how_of d))) (sym settles.0)
-        (fell_live steps.WentDown (Down n (Some k)) (delivery steps.WentDown (Some (Up n)) site) at settles.1 settles.2)
-    settled (Fell Full) went at answers settles =
-        subst (λ (d : Delivered). IsLive g new nodes now book (delivered story k (how_of d))) (sym settles.0)
-        (fell_live steps.WasFull (Down n None) (delivery steps.WasFull (Some (Up n)) site) at settles.1 settles.2)
+    module _ (tells : D → Type 0) (history_ : D → History) (health : D → Health) where
+      abbrev GoesOn : Went → Type 0
+      GoesOn went = Goes tells history_ health g old new nodes now book story k m x went
+
+      abbrev Rested : List Posted → List (MemorySlot D G) → List Site → Type 0
+      Rested ps slots sites = AreRested tells history_ health g ps slots sites
+
+      voted : (went : Went) (how : How) (vote : Option ℕ) → how_of went.delivered ≡ how → went.vote ≡ vote → vote_from (length story.posted) x (Some (Up n)) how ≡ vote
+          → went.vote ≡ vote_from (length story.posted) x (slice_get story.sites m) (how_of went.delivered)
+      voted went how vote how_is is from_ =
+          is ∙ sym from_ ∙ ap (vote_from (length story.posted) x (Some (Up n))) (sym how_is)
+          ∙ ap (λ (o : Option Site). vote_from (length story.posted) x o (how_of went.delivered)) (sym site)
+
+      fell_goes : (went : Went) (how : How) (down : Site) → how_of went.delivered ≡ how → delivered story k how ≡ with_site story m down
+          → vote_from (length story.posted) x (Some (Up n)) how ≡ None → AreAt g new (slice_set story.sites m down)
+          → (Rested story.posted old story.sites → Rested story.posted new (slice_set story.sites m down)) → book ≡ mid → ((ps : List Posted) → before ps → now ps) → went.vote ≡ None → GoesOn went
+      fell_goes went how down how_is is none at rests same stands vote = record {
+        live = subst (λ (h : How). IsLive g new nodes now book (delivered story k h)) (sym how_is) (fell_live how down is at same stands);
+        rests = λ rested. subst (λ (h : How). Rested (delivered story k h).posted new (delivered story k h).sites) (sym how_is)
+            (subst (λ (s : Story). Rested s.posted new s.sites) (sym is) (rests rested));
+        vote = voted went how None how_is vote none;
+      }
+
+      answered_rests : (Rested story.posted old story.sites → Rested story.posted new (slice_set story.sites m (Up (reaction n x).now))) → Rested story.posted old story.sites
+          → Rested (delivered story k steps.Handled).posted new (delivered story k steps.Handled).sites
+      answered_rests rests rested =
+          subst (λ (s : Story). Rested s.posted new s.sites) (sym is_after)
+          (subst (λ (ps : List Posted). Rested ps new after.sites) (sym (counted_posted story m p.from (reaction n p.message).entry (reaction n p.message).answer))
+          (subst (λ (ss : List Site). Rested (story.posted ++ answered m p.from (reaction n p.message).answer) new (slice_set ss m (Up (reaction n p.message).now)))
+          (sym (counted_takes story m p.from (reaction n p.message).entry (reaction n p.message).answer).sites)
+          (subst (λ (y : Message). Rested (story.posted ++ answered m p.from (reaction n p.message).answer) new (slice_set story.sites m (Up (reaction n y).now))) (sym is_x)
+          (rested_more tells history_ health g story.posted (answered m p.from (reaction n p.message).answer) new (slice_set story.sites m (Up (reaction n x).now)) (rests rested)))))
+
+      settled : (handled : fate.Handled) (went : Went) → AreAt g new (slice_set story.sites m (site_after k n x handled)) → Answers n x handled
+          → (Rested story.posted old story.sites → Rested story.posted new (slice_set story.sites m (site_after k n x handled)))
+          → Settles before now mid book m from may handled went → GoesOn went
+      settled (Answered answer) went at answers rests settles = record {
+        live = subst (λ (d : Delivered). IsLive g new nodes now book (delivered story k (how_of d))) (sym settles.0) (answered_live answer answers at settles.1 settles.2 settles.3);
+        rests = λ rested. subst (λ (d : Delivered). Rested (delivered story k (how_of d)).posted new (delivered story k (how_of d)).sites) (sym settles.0) (answered_rests rests rested);
+        vote = voted went steps.Handled (vote_number (length story.posted) answer) (ap how_of settles.0) (settles.4 story.posted live.posted)
+            (ap (vote_number (length story.posted)) (sym answers));
+      }
+      settled (Fell Stop) went at answers rests settles =
+          fell_goes went steps.WentDown (Down n (Some k)) (ap how_of settles.0) (delivery steps.WentDown (Some (Up n)) site) refl at rests settles.1 settles.2 settles.3
+      settled (Fell Fault) went at answers rests settles =
+          fell_goes went steps.WentDown (Down n (Some k)) (ap how_of settles.0) (delivery steps.WentDown (Some (Up n)) site) refl at rests settles.1 settles.2 settles.3
+      settled (Fell Full) went at answers rests settles =
+          fell_goes went steps.WasFull (Down n None) (ap how_of settles.0) (delivery steps.WasFull (Some (Up n)) site) refl at rests settles.1 settles.2 settles.3
 
 -- ---- as the code has it
 
-module _ {D : Type 0} {G : Ghosts D} (old new : List (MemorySlot D G)) (before now : List Posted → Type 0) (was mid book : Book) (m : ℕ) (from : Actor) (x : Message)
-    (there : m < length old) where
+-- message k of a story is message k of what was posted
+numbered_is : (story : Story) (k : ℕ) → numbered story.posted k ≡ message_at story k
+numbered_is story zero = refl
+numbered_is story (suc k) = refl
+
+module _ {D : Type 0} {G : Ghosts D} (tells : D → Type 0) (history_ : D → History) (health : D → Health) (old new : List (MemorySlot D G)) (before now : List Posted → Type 0)
+    (was mid book : Book) (m : ℕ) (from : Actor) (x : Message) (there : m < length old) where
   -- what becomes of each story
-  abbrev pub Lives : Delivered → Type 0
+  abbrev pub Lives : Went → Type 0
   Lives went = (size : ℕ) (g : Geometry4) (nodes : List Machine) (story : Story) (k : ℕ) (p : Posted) → IsTold size story → message_at story k ≡ Some p
-      → p ≡ record { from = from; to = Memory m; message = x } → IsLive g old nodes before was story → IsLive g new nodes now book (delivered story k (how_of went))
+      → p ≡ record { from = from; to = Memory m; message = x } → IsLive g old nodes before was story → Goes tells history_ health g old new nodes now book story k m x went
 
   slot_at : (slot : MemorySlot D G) × (slice_get old m ≡ Some slot)
   slot_at = some_at old m there
 
-  pub settled_lives : (E : Type 0) (r : Result Delivered E) (may : Option TxId) (handled : fate.Handled)
+  pub settled_lives : (E : Type 0) (r : Result Went E) (may : Option TxId) (handled : fate.Handled)
       → ((slot : MemorySlot D G) → slice_get old m ≡ Some slot → false ≡ is_down_in slot)
       → ((slot : MemorySlot D G) → slice_get old m ≡ Some slot → may ≡ may_grant (state_at slot) x)
       → history_of mid ≡ history_of was → ((id : TxId) → doubts_of mid id ≡ doubts_of was id)
       → ((g : Geometry4) (sites : List Site) (n : MemoryNode) (k : ℕ) → AreAt g old sites → slice_get sites m ≡ Some (Up n) → AreAt g new (slice_set sites m (site_after k n x handled)))
       → ((g : Geometry4) (sites : List Site) (n : MemoryNode) → AreAt g old sites → slice_get sites m ≡ Some (Up n) → Answers n x handled)
+      → ((g : Geometry4) (sites : List Site) (n : MemoryNode) (k : ℕ) (posted : List Posted) (p : Posted) → AreAt g old sites → slice_get sites m ≡ Some (Up n) → numbered posted k ≡ Some p
+      → p.message ≡ x → AreRested tells history_ health g posted old sites → AreRested tells history_ health g posted new (slice_set sites m (site_after k n x handled)))
       → IfOk r (Settles before now mid book m from may handled) → IfOk r Lives
-  settled_lives E r may handled up may_is history doubts at answers = IfOk-weaker r (Settles before now mid book m from may handled) Lives
+  settled_lives E r may handled up may_is history doubts at answers rests = IfOk-weaker r (Settles before now mid book m from may handled) Lives
       (λ went settles size g nodes story k p told posted is_p live.
       let within : m < length story.sites = let many : length old ≡ length story.sites = live.memories.many in omega (arith, there, many) in
       let site = some_at story.sites m within in
       let one = up_site size g old new nodes before now was mid book m from x story k p told posted is_p live slot_at.0 slot_at.1 (sym (up slot_at.0 slot_at.1)) site.0 site.1 in
       settled size g old new nodes before now was mid book m from x story k p told posted is_p live one.0 one.1
-      may (may_is slot_at.0 slot_at.1 ∙ ap (λ (s : _). may_grant s x) one.2) history doubts handled went
-      (at g story.sites one.0 k live.memories one.1) (answers g story.sites one.0 live.memories one.1) settles)
+      may (may_is slot_at.0 slot_at.1 ∙ ap (λ (s : _). may_grant s x) one.2) history doubts tells history_ health handled went
+      (at g story.sites one.0 k live.memories one.1) (answers g story.sites one.0 live.memories one.1)
+      (rests g story.sites one.0 k story.posted p live.memories one.1 (numbered_is story k ∙ posted) (ap (λ (q : Posted). q.message) is_p)) settles)
 
 -- one that is down leaves all as it is
-pub lost_lives : {D : Type 0} {G : Ghosts D} (old : List (MemorySlot D G)) (before : List Posted → Type 0) (was : Book) (m : ℕ) (from : Actor) (x : Message) (there : m < length old)
-    → ((slot : MemorySlot D G) → slice_get old m ≡ Some slot → true ≡ is_down_in slot) → Lives old old before before was was was m from x there Lost
-lost_lives old before was m from x there down size g nodes story k p told posted is_p live =
-    let slot = some_at old m there in
-    let within : m < length story.sites = let many : length old ≡ length story.sites = live.memories.many in omega (arith, there, many) in
-    let site = some_at story.sites m within in
-    subst (IsLive g old nodes before was)
-    (sym (lost size g old old nodes before before was was was m from x story k p told posted is_p live slot.0 slot.1 (sym (down slot.0 slot.1)) site.0 site.1)) live
+pub lost_lives : {D : Type 0} {G : Ghosts D} (tells : D → Type 0) (history_ : D → History) (health : D → Health) (old : List (MemorySlot D G)) (before : List Posted → Type 0) (was : Book) (m : ℕ)
+    (from : Actor) (x : Message) (there : m < length old) (went : Went) → ((slot : MemorySlot D G) → slice_get old m ≡ Some slot → true ≡ is_down_in slot)
+    → went ≡ record { delivered = Lost; vote = None } → Lives tells history_ health old old before before was was was m from x there went
+lost_lives {D = D} {G = G} tells history_ health old before was m from x there went down is size g nodes story k p told posted is_p live =
+    subst (λ (w : Went). Goes tells history_ health g old old nodes before was story k m x w) (sym is) (record {
+      live = subst (IsLive g old nodes before was) (sym same) live;
+      rests = λ rested. subst (λ (s : Story). AreRested tells history_ health g s.posted old s.sites) (sym same) rested;
+      vote = none (slice_get story.sites m);
+    })
+  where
+    slot : (slot : MemorySlot D G) × (slice_get old m ≡ Some slot)
+    slot = some_at old m there
+
+    site : (site : Site) × (slice_get story.sites m ≡ Some site)
+    site = some_at story.sites m (let many : length old ≡ length story.sites = live.memories.many in omega (arith, there, many))
+
+    same : delivered story k steps.Lost ≡ story
+    same = lost size g old old nodes before before was was was m from x story k p told posted is_p live slot.0 slot.1 (sym (down slot.0 slot.1)) site.0 site.1
+
+    none : (o : Option Site) → None ≡ vote_from (length story.posted) x o steps.Lost
+    none None = refl
+    none (Some (Up n)) = refl
+    none (Some (Down n handling)) = refl

@@ -1,9 +1,12 @@
 -- What the parts of a cluster stand for together.
-use Rattle.std.specs.Prelude.{◌≡◌, ◌++◌, ℕ, Bool, true, false, List, map, length, slice_get, slice_set, Option, Some, None, if◌then◌else◌}
+use Rattle.std.specs.Prelude.{◌≡◌, ◌+◌, ◌++◌, ℕ, Bool, true, false, List, map, length, slice_get, slice_set, Option, Some, None, if◌then◌else◌}
+use Rattle.disk_model.specs.Crash.{History}
 use Rattle.disk_model.specs.declared.disk.Disk.{Ghosts}
+use Rattle.disk_model.specs.Health.{Health}
 use Rattle.mini_tx.specs.declared.actor.Actor.{Actor}
 use Rattle.mini_tx.specs.declared.actor.Actor.TheVariants.{Node, Memory, Manager}
 use Rattle.mini_tx.specs.declared.geometry.Geometry4.{Geometry4}
+use Rattle.mini_tx.specs.declared.message.Message.{Message}
 use Rattle.mini_tx.specs.declared.posted.Posted.{Posted}
 use Rattle.mini_tx.specs.declared.tx_id.TxId.{TxId}
 use Rattle.tx_coord.specs.declared.outcome.Outcome.TheVariants.{Committed, Refused}
@@ -11,11 +14,12 @@ use Rattle.tx_coord.specs.declared.tx_state.TxState.{TxState}
 use Rattle.tx_coord.specs.declared.tx_state.TxState.TheVariants as state
 use Rattle.tx_coord.specs.Rules.{Step}
 use Rattle.tx_coord.specs.State.{Machine}
-use Rattle.story_rules.specs.Story.{Seat, Story}
+use Rattle.story_rules.specs.MemoryNodes.{reaction}
+use Rattle.story_rules.specs.Story.{Seat, Site, Story, Up, Down}
 use Rattle.story_rules.specs.Steps as steps
-use Rattle.story_rules.specs.Steps.{How, answered}
+use Rattle.story_rules.specs.Steps.{How, answered, delivered}
 use Rattle.cluster_laws.specs.Doubts.{points_of, waits_after, waits_without}
-use Rattle.cluster_laws.specs.Reactions.{grants}
+use Rattle.cluster_laws.specs.Reactions.{grants, is_grant}
 use Rattle.cluster_parts.specs.Books.{IsBook, doubts_of, history_of}
 use Rattle.cluster_parts.specs.declared.book.Book.{Book}
 use Rattle.cluster_parts.specs.declared.delivered.Delivered.{Delivered}
@@ -24,7 +28,8 @@ use Rattle.cluster_parts.specs.declared.delivered.DownCause.TheVariants.{Stop, F
 use Rattle.cluster_parts.specs.declared.delivered.Handled as fate
 use Rattle.cluster_parts.specs.declared.delivered.Handled.TheVariants.{Answered, Fell}
 use Rattle.cluster_parts.specs.declared.memory_slot.MemorySlot.{MemorySlot}
-use Rattle.cluster_memories.specs.Memories.{AreAt}
+use Rattle.cluster_memories.specs.Memories.{AreAt, AreRested}
+use Rattle.cluster_steps.specs.declared.went.Went.{Went}
 
 -- each node runs with the coordinator of its seat
 pub record AreSeated (nodes : List Machine) (seats : List Seat) : Type 0 where
@@ -47,16 +52,39 @@ how_of (WentDown Stop) = steps.WentDown
 how_of (WentDown Fault) = steps.WentDown
 how_of (WentDown Full) = steps.WasFull
 
--- the book and the link after a memory node has handled a message: what it grants is counted, and its answer posted; where
--- it went down both are as before
-abbrev pub Settles : (List Posted → Type 0) → (List Posted → Type 0) → Book → Book → ℕ → Actor → Option TxId → fate.Handled → Delivered → Type 0
+-- the number by which an answer leaves behind so many messages, where it is a Granted vote
+abbrev pub vote_number : ℕ → Option Message → Option ℕ
+vote_number posted answer = if is_grant answer then Some (posted + 1) else None
+
+-- what becomes of the book and the link where a memory node has handled a message: what it grants is counted, and its answer
+-- posted; where it went down both are as before
+abbrev pub Settles : (List Posted → Type 0) → (List Posted → Type 0) → Book → Book → ℕ → Actor → Option TxId → fate.Handled → Went → Type 0
 Settles before now old book m from may (Answered answer) went =
-    (went ≡ Handled)
+    (went.delivered ≡ Handled)
     × (history_of book ≡ history_of old ++ points_of (doubts_of old) (grants may answer) m)
     × ((id : TxId) → doubts_of book id ≡ waits_after (doubts_of old) (grants may answer) m id)
     × ((posted : List Posted) → before posted → now (posted ++ answered m from answer))
+    × ((posted : List Posted) → before posted → went.vote ≡ vote_number (length posted) answer)
 Settles before now old book m from may (Fell cause) went =
-    (went ≡ WentDown cause) × (book ≡ old) × ((posted : List Posted) → before posted → now posted)
+    (went.delivered ≡ WentDown cause) × (book ≡ old) × ((posted : List Posted) → before posted → now posted) × (went.vote ≡ None)
+
+-- the Granted vote of a memory node at this site, by the number of its message
+abbrev pub vote_from : ℕ → Message → Option Site → How → Option ℕ
+vote_from posted x (Some (Up n)) steps.Handled = vote_number posted (reaction n x).answer
+vote_from posted x (Some (Up n)) steps.Lost = None
+vote_from posted x (Some (Up n)) steps.Stopped = None
+vote_from posted x (Some (Up n)) steps.WentDown = None
+vote_from posted x (Some (Up n)) steps.WasFull = None
+vote_from posted x (Some (Down n handling)) how = None
+vote_from posted x None how = None
+
+-- what a delivery to a memory node makes of the story's parts, of what its disks hold, and the vote that it tells
+pub record Goes {D : Type 0} {G : Ghosts D} (tells : D → Type 0) (history : D → History) (health : D → Health) (g : Geometry4) (old slots : List (MemorySlot D G)) (nodes : List Machine)
+    (stands : List Posted → Type 0) (book : Book) (story : Story) (k m : ℕ) (x : Message) (went : Went) : Type 0 where
+  pub live : IsLive g slots nodes stands book (delivered story k (how_of went.delivered))
+  pub rests : AreRested tells history health g story.posted old story.sites
+      → AreRested tells history health g (delivered story k (how_of went.delivered)).posted slots (delivered story k (how_of went.delivered)).sites
+  pub vote : went.vote ≡ vote_from (length story.posted) x (slice_get story.sites m) (how_of went.delivered)
 
 -- the same of all but the memory nodes
 pub record IsBeside (nodes : List Machine) (stands : List Posted → Type 0) (book : Book) (story : Story) : Type 0 where

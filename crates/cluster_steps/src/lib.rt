@@ -10,8 +10,10 @@ mod own_step;
 mod posting;
 mod queue;
 mod running;
+mod went;
 
 pub use cluster_memories::{Delivered, DownCause, Handled, Memories, MemorySlot};
 pub use memory_step::to_memory;
 pub use node_step::to_node;
-pub use own_step::begin;
+pub use own_step::{begin, resend};
+pub use went::Went;

@@ -1,10 +1,11 @@
-ghost use Rattle.std.specs.Prelude.{◌≡◌, ◌<◌, ◌^◌, ℕ, None, length, slice_get, Some, OnOk, if◌then◌else◌};
+ghost use Rattle.std.specs.Prelude.{◌≡◌, ◌<◌, ◌^◌, ◌++◌, ℕ, List, map, None, length, slice_get, Some, OnOk, if◌then◌else◌};
 ghost use Rattle.mini_tx.specs.Order.{is_same};
 ghost use Rattle.mini_tx.specs.declared.tx_id.TxId.{TxId as Identifier};
-ghost use Rattle.tx_coord.specs.Rules.{next_id};
+ghost use Rattle.mini_tx.specs.declared.posted.Posted.{Posted};
+ghost use Rattle.tx_coord.specs.Rules.{next_id, resent};
 ghost use Rattle.tx_coord.specs.State.{Free, Machine};
 ghost use Rattle.story_rules.specs.Story.{Story};
-ghost use Rattle.story_rules.specs.Steps.{begun_by};
+ghost use Rattle.story_rules.specs.Steps.{begun_by, sent_by};
 ghost use Rattle.story_laws.specs.Acts.{IsTold};
 ghost use Rattle.cluster_parts.specs.Books.{doubts_of, history_of};
 ghost use Rattle.cluster_seats.specs.Seats.{nodes_in};
@@ -69,5 +70,16 @@ pub fn begin<L: Link>(
         change,
         participants.as_slice(),
     )?;
+    post_all(link, n, posts)
+}
+
+/// What a node posts again is posted. [`NoMemory`]: there is no memory.
+pub fn resend<L: Link>(seats: &Seats, link: &mut L, n: u32) -> Result<(), NoMemory>
+    requires there { n < length (nodes_in seats.now) }
+    requires life { (L.shown link.old).count < 2 ^ 62 }
+    ensures { OnOk result ((c : Machine) → slice_get (nodes_in seats.now) n ≡ Some c
+        → (posted : List Posted) → L.stands link.old posted → L.stands link.new (posted ++ map (sent_by n) (resent c.state))) }
+{
+    let posts = seats.resend(n)?;
     post_all(link, n, posts)
 }

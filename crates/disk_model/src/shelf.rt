@@ -31,6 +31,7 @@ pub trait Shelf {
             → IsAtRest Self.D.history Self.D.health disk }
         ensures cause { HasCause (faults self.old) (faults self.new) result }
         ensures tells { tells self.old → tells self.new }
+        ensures told_before { tells self.new → tells self.old }
         ensures given { IfOk result (λ disk. tells self.old → disks self.old k ≡ Some disk) }
         ensures told { IfOk result (λ disk. tells self.old → Self.D.tells disk) }
         ensures rests { IfOk result (λ disk. Self.D.tells disk → IsAtRest Self.D.history Self.D.health disk) }
@@ -45,6 +46,7 @@ pub trait Shelf {
         requires taken { is_taken self.old k ≡ true }
         requires told { tells self.old → Self.D.tells disk }
         ensures tells { tells self.old → tells self.new }
+        ensures told_before { tells self.new → tells self.old }
         ensures given { tells self.old → (j : ℕ) → disks self.new j ≡ (if j == k then Some disk else disks self.old j) }
         ensures taken { (j : ℕ) → is_taken self.new j ≡ (if j == k then false else is_taken self.old j) }
         ensures faults { faults self.new ≡ faults self.old };

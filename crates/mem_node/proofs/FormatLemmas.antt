@@ -55,3 +55,10 @@ image_small s fit stored is =
     let blocks = fit.blocks.1 in
     let inodes = fit.inodes.1 in
     omega (arith, ap (length {A = ℕ}) is, length-fresh_image s.geometry s.index fit.inodes.0)
+
+-- the half in use is the first one
+pub laid_in_first : (s : Setup) (front stored : List ℕ) → front ≡ front_bytes s → (image : Content) → IsLaidOut front stored image → half_of image ≡ First
+laid_in_first s front stored is image laid =
+    let page : Holds image 0 (front_bytes s) = subst (λ (b : List ℕ). Holds image 0 b) is laid.page in
+    let first : image 0 ≡ 0 = page.each 0 (omega (arith, length-append (replicate 64 0) (header_bytes s), length-replicate {A = ℕ} 64 0)) in
+    ap side_of first

@@ -4,3 +4,4 @@ pub mod NodeLemmas
 pub mod ReplayLemmas
 pub mod LoadLemmas
 pub mod FormatLemmas
+pub mod FreshLemmas

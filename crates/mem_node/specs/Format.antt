@@ -24,3 +24,12 @@ IsFormatFault Full fell same = ⊥
 IsFormatFault Other fell same = ⊥
 IsFormatFault (Damaged at) fell same = ⊥
 IsFormatFault NoMemory fell same = same
+
+-- why there is no memory node of a disk that was formatted: the disk failed, or has other bytes than were written, or
+-- there was no memory
+abbrev pub IsFreshFault : NodeFault → Type 0 → Type 0
+IsFreshFault Down fell = fell
+IsFreshFault Full fell = ⊥
+IsFreshFault Other fell = ⊥
+IsFreshFault (Damaged at) fell = Unit {0}
+IsFreshFault NoMemory fell = Unit {0}

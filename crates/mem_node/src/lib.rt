@@ -10,6 +10,7 @@
 //! [`NodeFault::Down`] or [`NodeFault::Full`] another load.
 #![tactic(auto)]
 
+mod fresh_node;
 mod laws;
 mod load;
 mod load_log;

@@ -1,6 +1,7 @@
 ghost use Rattle.std.specs.Prelude.{◌≡◌, false, None};
 ghost use Rattle.gate_log.specs.Log.{has_failed};
 
+use crate::fresh_node::{fresh_node, lay_fresh};
 use crate::load::read_stored;
 use crate::load_log::load_log;
 use crate::node_fault::NodeFault;
@@ -9,7 +10,6 @@ use disk_model::{Disk, Stop};
 use gate_log::Log;
 use mem_rules::{Memory, Reaction, Setup, names_are_typed};
 use mini_tx::{Actor, Entry, Message, TxId, Vote, write_entry};
-use node_disk::{fresh, front, write_node};
 use std::alloc::Global;
 
 /// A memory node: a participant with its redo log.
@@ -28,7 +28,9 @@ impl<D: Disk> MemNode<D> {
     ghost use Rattle.disk_model.specs.Calls.{IsReady};
     ghost use Rattle.disk_model.specs.Crash.{LeavesOnly};
     ghost use Rattle.disk_model.specs.Health.{Fell, IsLive, Passed, Speaks};
-    ghost use Rattle.mem_node.specs.Format.{IsFresh, IsFormatting, IsFormatFault};
+    ghost use Rattle.mem_node.specs.Format.{IsFresh, IsFormatting, IsFormatFault, IsFreshFault};
+    ghost use Rattle.mini_tx.specs.FreshImages.{fresh_image};
+    ghost use Rattle.mem_rules.specs.State.{opened};
     ghost use Rattle.node_disk.specs.Header.{IsFormatted};
     ghost use Rattle.mem_node.specs.Disk.{IsLoadFault, IsBroken};
     ghost use Rattle.mini_tx.specs.EntryGrammar.{FitsEntry};
@@ -60,10 +62,25 @@ impl<D: Disk> MemNode<D> {
         ensures passed { OnOk result (Passed 8 (D.health disk.old) (D.health disk.new)) }
         ensures live { OnOk result (IsLive 8 (D.health disk.old)) }
     {
-        let image = fresh(alloc, setup)?;
-        let front = front(alloc, setup)?;
-        write_node(disk, &front, &image)?;
-        Ok(())
+        lay_fresh(alloc, disk, setup)
+    }
+
+    /// Formats the disk of a memory node, and gives the memory node: it has the fresh image, and no record.
+    /// Nothing may be pending on the disk. A refused call hands the disk back. [`NodeFault::Down`]: the disk
+    /// failed. [`NodeFault::Damaged`]: the disk does not have what was written. [`NodeFault::NoMemory`]: there is no memory.
+    pub fn fresh(alloc: Global, disk: D, setup: Setup) -> Result<MemNode<D>, (NodeFault, D)>
+        requires { IsSetup setup }
+        ensures state { IfOk result (λ node. node_state_of node
+            ≡ opened setup.geometry.nodes (fresh_image setup.geometry setup.index)) }
+        ensures setup { IfOk result (λ node. setup_of node ≡ setup) }
+        ensures running { IfOk result (λ node. shut_of node ≡ None) }
+        ensures sound { IfOk result (λ node. IsReady D.tells D.history D.health disk
+            → IsOnDisk D.tells D.history D.health node) }
+        ensures told { IfErr result (λ refusal. Speaks D.tells D.health disk → D.tells refusal.1) }
+        ensures refused { IfErr result (λ refusal. IsFreshFault refusal.0
+            (Fell 8 (D.health disk) (D.health refusal.1))) }
+    {
+        fresh_node(alloc, disk, setup)
     }
 
     /// The memory node of this disk: its stored image, with all that its log made of it. Nothing may be

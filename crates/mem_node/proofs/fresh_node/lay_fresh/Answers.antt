@@ -1,6 +1,6 @@
 use Rattle.std.proofs.Common.{◌∙◌}
-use Rattle.mem_node.proofs.FormatLemmas.{forming, laid_is_fresh, front_short, image_small}
-use Rattle.mem_node.proofs.mem_node.MemNode.format.Goals as goal
+use Rattle.mem_node.proofs.FormatLemmas.{forming, laid_in_first, laid_is_fresh, front_short, image_small}
+use Rattle.mem_node.proofs.fresh_node.lay_fresh.Goals as goal
 
 pub write_node-requires-clause-front : goal.write_node-requires-clause-front
 write_node-requires-clause-front g c = front_short c.args.setup c.deref.result.now (c.deref.ensures.value ∙ c.in_ok-front.ensures)
@@ -25,3 +25,8 @@ returns-clause-fresh g c ready =
           (g.D.Disk.history c.write_node.new.disk).now.content done.laid,
       record { speaks = c.in_ok-write_node.ensures.hands.speaks ready.speaks; safe = done.safe },
     )
+
+pub returns-clause-half : goal.returns-clause-half
+returns-clause-half g c ready =
+    laid_in_first c.args.setup c.deref.result.now c.deref-2.result.now (c.deref.ensures.value ∙ c.in_ok-front.ensures)
+    (g.D.Disk.history c.write_node.new.disk).now.content (c.in_ok-write_node.ensures.ok ready).laid
