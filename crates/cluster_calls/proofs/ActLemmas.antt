@@ -8,7 +8,6 @@ use Rattle.disk_model.specs.Health.{Health}
 use Rattle.mini_tx.specs.declared.geometry.Geometry4.{Geometry4}
 use Rattle.mini_tx.specs.declared.item.Item.{Item}
 use Rattle.mini_tx.specs.declared.posted.Posted.{Posted}
-use Rattle.mini_tx.specs.declared.tx_id.TxId.{TxId}
 use Rattle.mini_tx.specs.Laws.{IsTypedId}
 use Rattle.mini_tx.specs.Minitransactions.{refusal}
 use Rattle.tx_coord.specs.Rules as rules
@@ -16,12 +15,11 @@ use Rattle.tx_coord.specs.Rules.{next_id}
 use Rattle.tx_coord.specs.State as coord
 use Rattle.tx_coord.specs.State.{Machine}
 use Rattle.story_rules.specs.Story.{Seat, Site, Story}
-use Rattle.story_rules.specs.Steps.{How, at_seat, at_actor, with_actor, begun_by, given_up, cleared, resent, sent_by}
+use Rattle.story_rules.specs.Steps.{at_seat, at_actor, with_actor, begun_by, given_up, cleared, resent, sent_by}
 use Rattle.story_laws.specs.Acts.{Begins, Delivers, GivesUp, Clears, Resends, IsTold, MayBegin, MayHappen, Holds, after_act}
 use Rattle.story_laws.specs.Acts as acts
 use Rattle.story_laws.specs.Identifiers.{IsSeated}
 use Rattle.story_laws.proofs.ActLemmas.{act_grows, stories_go_on, told_stories_hold}
-use Rattle.cluster_laws.specs.Doubts.{AreInDoubt}
 use Rattle.cluster_laws.proofs.DoubtLemmas.{beginnings_are_in_doubt, refused_are_not_in_doubt}
 use Rattle.cluster_parts.specs.Books.{IsBook, doubts_of}
 use Rattle.cluster_parts.specs.declared.book.Book.{Book}

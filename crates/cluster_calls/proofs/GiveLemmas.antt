@@ -10,13 +10,12 @@ use Rattle.link_model.specs.Links.{IsOf, Shown}
 use Rattle.mini_tx.specs.declared.actor.Actor.{Actor}
 use Rattle.mini_tx.specs.declared.actor.Actor.TheVariants.{Node, Memory, Manager}
 use Rattle.mini_tx.specs.declared.geometry.Geometry4.{Geometry4}
-use Rattle.mini_tx.specs.declared.message.Message.{Message}
 use Rattle.mini_tx.specs.declared.posted.Posted.{Posted}
 use Rattle.mem_rules.specs.declared.setup.Setup.{Setup}
 use Rattle.mem_rules.specs.Fit.{IsOfCluster, size_of}
 use Rattle.tx_coord.specs.State.{Machine}
 use Rattle.tx_rules.specs.Mini.{In}
-use Rattle.story_rules.specs.Story.{Seat, Site, Story, Up, Down}
+use Rattle.story_rules.specs.Story.{Site, Story, Up, Down}
 use Rattle.story_rules.specs.Steps as steps
 use Rattle.story_rules.specs.Steps.{message_at, delivered, given, to_receiver, to_memory, to_node}
 use Rattle.story_laws.specs.Acts.{IsTold, Delivers}
@@ -27,7 +26,7 @@ use Rattle.cluster_laws.proofs.SendingLemmas.{nodes_send_to_memories}
 use Rattle.cluster_parts.specs.Slots.{IsAt, setup_at}
 use Rattle.cluster_parts.specs.declared.book.Book.{Book}
 use Rattle.cluster_parts.specs.declared.memory_slot.MemorySlot.{MemorySlot}
-use Rattle.cluster_memories.specs.Memories.{AreAt, AreRested, MayBeSent, setup_for}
+use Rattle.cluster_memories.specs.Memories.{AreRested, MayBeSent, setup_for}
 use Rattle.cluster_parts.specs.declared.delivered.Delivered.TheVariants.{Handled}
 use Rattle.cluster_steps.specs.Live.{Goes, IsBeside, IsLive, how_of, vote_from}
 use Rattle.cluster_steps.specs.declared.went.Went.{Went}

@@ -1,5 +1,5 @@
 -- The parts of a cluster as one value, and what they stand for.
-use Rattle.std.specs.Prelude.{◌≡◌, ℕ, List}
+use Rattle.std.specs.Prelude.{List}
 use Rattle.disk_model.specs.Crash.{History}
 use Rattle.disk_model.specs.declared.disk.Disk.{Ghosts}
 use Rattle.disk_model.specs.Health.{Health}

@@ -162,6 +162,7 @@ impl<D: Disk, L: Link> Parts<D, L> {
     /// Lets a message wait no more, and tells whether it was posted. It takes no memory.
     pub fn lose(&mut self, k: u64) -> bool
         ensures geometry { geometry_of self.new ≡ geometry_of self.old }
+        ensures memories { memories_of self.new ≡ memories_of self.old }
         ensures same { (story : Story) → Stands L.stands self.old story → Stands L.stands self.new story }
         ensures posted { (story : Story) → Stands L.stands self.old story
             → IsTrue result ↔ ((0 < k) × (k < suc (length story.posted))) }

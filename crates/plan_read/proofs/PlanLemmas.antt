@@ -25,12 +25,12 @@ use Rattle.plan_looks.specs.Goes.{Ends, GoesOn, IsRefused}
 use Rattle.plan_looks.specs.declared.stop.Stop.{Stop}
 use Rattle.plan_looks.specs.declared.stop.Stop.TheVariants as stop
 use Rattle.read_laws.specs.Answers.{ready}
-use Rattle.read_laws.specs.Promise.{IsPlan, IsReadFinal, KeepsPromise}
+use Rattle.read_laws.specs.Promise.{IsPlan, KeepsPromise}
 use Rattle.read_laws.proofs.PromiseLemmas.{read_finals_keep_promise}
 use Rattle.plan_read.specs.Readings.{IsReading, reading_of}
 use Rattle.plan_read.proofs.ReadingLemmas.{readings_answer}
 use Rattle.plan_content.specs.Steps.{read_dir_steps, read_link_steps, read_steps}
-use Rattle.plan_read.specs.Finals.{IsFinalOf, IsStopped}
+use Rattle.plan_read.specs.Finals.{IsFinalOf, IsReadPlan, IsStopped}
 use Rattle.plan_read.specs.Lookup.{directory_steps}
 
 below_more : (k : ℕ) → below (suc k) ≡ below k ++ k ∷ []
@@ -73,37 +73,31 @@ read_dir_order held arrival dir cookie count cred = refl
 two_ways : (a b : Option ℕ) (status : ℕ) → a ≡ None → a ≡ Some status → ⊥
 two_ways a b status none some = let never : ◌≡◌ {A = Option ℕ} None (Some status) = sym none ∙ some in absurd cc
 
-module _ (held : Held) (arrival : ℕ) (call : Call) (cred : Cred) (now : Stamp) (looks : List Look) (work : IsWorkSet held) (is : IsReading call) where
-  ended : (mini : List Item) (form : AnswerForm) (made : Option (ℕ × ℕ)) (changed : List ℕ) → made ≡ None → changed ≡ [] → IsReadFinal held arrival call cred (reading_of held call) mini form
-      → KeepsPromise held arrival call cred now mini form made changed
-  ended mini form made changed none nothing final =
-      subst (λ (m : Option (ℕ × ℕ)). KeepsPromise held arrival call cred now mini form m changed) (sym none)
-      (subst (λ (ns : List ℕ). KeepsPromise held arrival call cred now mini form None ns) (sym nothing) (read_finals_keep_promise held arrival call cred now (reading_of held call) mini form work (readings_answer held arrival call cred now work is) final))
-
+module _ (held : Held) (arrival : ℕ) (call : Call) (cred : Cred) (looks : List Look) where
   pub read_plan : (r : Reading) (p : Plan) → GoesOn held (order held arrival call cred) [] looks → r ≡ reading_of held call → IsFinalOf held looks r p
-      → IsPlan held arrival call cred now p
+      → IsReadPlan held arrival call cred p
   read_plan r (Need w) goes same final = absurd final
   read_plan r (Final mini form made changed) goes same final = (
-    goes.wanted,
-    ended mini form made changed final.2 final.3 (record {
+    record {
       wanted = goes.wanted;
       refused = λ status fails. absurd (two_ways (refusal_in (order held arrival call cred)) None status goes.passes fails);
       answers = λ passes. (
         final.0 ∙ ap (λ ls. compares held ls ++ r.items) goes.looks ∙ ap (λ (x : Reading). compares held (looked_at held arrival call cred) ++ x.items) same,
         final.1 ∙ ap (λ (x : Reading). x.form) same,
       );
-    }),
+    },
+    final.2,
+    final.3,
   )
 
   some_same : (a b : ℕ) → ◌≡◌ {A = Option ℕ} (Some a) (Some b) → a ≡ b
   some_same a b same = cc
 
   pub refused_plan : (status : ℕ) (r : Reading) (p : Plan) → IsRefused held (order held arrival call cred) [] looks status → r ≡ ready (Fault status)
-      → IsFinalOf held looks r p → IsPlan held arrival call cred now p
+      → IsFinalOf held looks r p → IsReadPlan held arrival call cred p
   refused_plan status r (Need w) refused same final = absurd final
   refused_plan status r (Final mini form made changed) refused same final = (
-    refused.wanted,
-    ended mini form made changed final.2 final.3 (record {
+    record {
       wanted = refused.wanted;
       refused = λ other fails. (
         final.0 ∙ ap (λ ls. compares held ls ++ r.items) refused.looks ∙ ap (λ (x : Reading). compares held (looked_at held arrival call cred) ++ x.items) same
@@ -111,13 +105,26 @@ module _ (held : Held) (arrival : ℕ) (call : Call) (cred : Cred) (now : Stamp)
         final.1 ∙ ap (λ (x : Reading). x.form) same ∙ ap (λ k. (ready (Fault k)).form) (some_same status other (sym refused.fails ∙ fails)),
       );
       answers = λ passes. absurd (two_ways (refusal_in (order held arrival call cred)) None status passes refused.fails);
-    }),
+    },
+    final.2,
+    final.3,
   )
 
-  pub stopped_plan : (e : Stop) (p : Plan) → Ends held (order held arrival call cred) [] looks e → IsStopped held looks e p → IsPlan held arrival call cred now p
-  stopped_plan (stop.Need w) p wants is = subst (λ (x : Plan). IsPlan held arrival call cred now x) (sym is) wants
+  pub stopped_plan : (e : Stop) (p : Plan) → Ends held (order held arrival call cred) [] looks e → IsStopped held looks e p → IsReadPlan held arrival call cred p
+  stopped_plan (stop.Need w) p wants is = subst (λ (x : Plan). IsReadPlan held arrival call cred x) (sym is) wants
   stopped_plan (stop.Refused s) p refused is = refused_plan s.0 (ready (Fault s.0)) p refused refl is
   stopped_plan stop.NoMemory p ends is = absurd is
+
+-- a plan that only reads keeps its promise
+pub plan_keeps : (held : Held) (arrival : ℕ) (call : Call) (cred : Cred) (now : Stamp) (p : Plan) → IsWorkSet held → IsReading call → IsReadPlan held arrival call cred p
+    → IsPlan held arrival call cred now p
+plan_keeps held arrival call cred now (Need w) work is plan = plan
+plan_keeps held arrival call cred now (Final mini form made changed) work is plan = (
+  plan.0.wanted,
+  subst (λ (m : Option (ℕ × ℕ)). KeepsPromise held arrival call cred now mini form m changed) (sym plan.1)
+      (subst (λ (ns : List ℕ). KeepsPromise held arrival call cred now mini form None ns) (sym plan.2)
+      (read_finals_keep_promise held arrival call cred now (reading_of held call) mini form work (readings_answer held arrival call cred now work is) plan.0)),
+)
 
 -- reads that are made one by one
 pub reads_none : (f : ℕ → Item) → map f (below 0) ≡ []

@@ -1,8 +1,7 @@
 ghost use Rattle.std.specs.Prelude.{◌≡◌, ℕ, [], IfOk};
-ghost use Rattle.nfs_proto.specs.declared.stamp.Stamp.{Stamp as AStamp};
 ghost use Rattle.plan_rules.specs.Works.{IsWorkSet};
 ghost use Rattle.read_laws.specs.Promise.{IsPlan};
-ghost use Rattle.plan_read.specs.Finals.{IsFinalOf, IsStopped};
+ghost use Rattle.plan_read.specs.Finals.{IsFinalOf, IsReadPlan, IsStopped};
 ghost use Rattle.plan_read.specs.Readings.{IsReading};
 
 use crate::procedures::reading;
@@ -15,8 +14,9 @@ use plan_forms::{Plan, Reading};
 use plan_looks::{Looks, Stop, finished};
 use std::alloc::Global;
 
-/// The plan of a call that reads: the part that it wants next, or its final minitransaction. The number of its arrival
-/// and the moment matter to calls that change something alone.
+/// The plan of a call that reads: the part that it wants next, or its final minitransaction, which reads what the call
+/// reads and keeps the promise of a plan. The number of its arrival and the moment matter to calls that change something
+/// alone.
 pub fn plan(
     alloc: Global,
     call: &Call,
@@ -27,7 +27,8 @@ pub fn plan(
 ) -> Result<Plan, NoMemory>
     requires work { IsWorkSet held.now }
     requires call { IsReading call.now }
-    ensures { IfOk result (IsPlan held.now arrival call.now cred.now now) }
+    ensures reads { IfOk result (IsReadPlan held.now arrival call.now cred.now) }
+    ensures keeps { IfOk result (IsPlan held.now arrival call.now cred.now now) }
 {
     planned(alloc, call, cred, held, &mut Looks::new(alloc))
 }
@@ -43,7 +44,7 @@ fn planned(
     requires work { IsWorkSet held.now }
     requires call { IsReading call.now }
     requires none_yet { looks.old ≡ [] }
-    ensures { (now : AStamp) → (arrival : ℕ) → IfOk result (IsPlan held.now arrival call.now cred.now now) }
+    ensures { (arrival : ℕ) → IfOk result (IsReadPlan held.now arrival call.now cred.now) }
 {
     match reading(alloc, held, looks, call, cred) {
         Ok(reading) => final_of(alloc, held, looks, reading),

@@ -38,12 +38,19 @@ const WORDS: [(u32, u32); 26] = [
 
 /// The flat memory with this tree, where this word stands at this address instead.
 pub(crate) fn flat_with(alloc: Global, at: u32, word: u32) -> Result<[Bytes; 1], NoMemory> {
+    flat_of(alloc, &[(at, word)])
+}
+
+/// The flat memory with this tree, where these words stand at their addresses instead.
+pub(crate) fn flat_of(alloc: Global, words: &[(u32, u32)]) -> Result<[Bytes; 1], NoMemory> {
     let mut image = Vec::new(alloc);
     image.resize(IMAGE_BYTES, 0)?;
-    for (place, value) in WORDS {
-        put(&mut image, place, value);
+    for (at, word) in WORDS {
+        put(&mut image, at, word);
     }
-    put(&mut image, at, word);
+    for (at, word) in words {
+        put(&mut image, *at, *word);
+    }
     Ok([Bytes::from(image)])
 }
 

@@ -8,5 +8,9 @@ mod images;
 #[cfg(test)]
 mod reading;
 mod serving;
+#[cfg(test)]
+mod wanting;
+mod wants;
 
-pub use serving::{SMALL, Step, nothing_held, run, serve};
+pub use serving::{SMALL, Step, empty, nothing_held, run, serve};
+pub use wants::{Wants, wants_of};

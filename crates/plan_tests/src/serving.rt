@@ -1,5 +1,6 @@
 ghost use Rattle.std.specs.Prelude.{◌≡◌, ℕ, List, Some, IsTrue, Ok, IfOk};
 ghost use Rattle.std.specs.List.{list_all};
+ghost use Rattle.fs_rules.specs.Geometry.{IsWithinLimits};
 ghost use Rattle.plan_forms.specs.Forms.{AreReadsFor};
 ghost use Rattle.plan_read.specs.Readings.{IsReading};
 ghost use Rattle.plan_rules.specs.Fetched.{AreReads, fetched};
@@ -11,6 +12,7 @@ use fs_rules::{Cred, number_at};
 use mini_tx::{Bytes, Item, Mini, Reads, perform};
 use nfs_proto::{Answer, Call, Stamp};
 use node_cache::{Geometry, Held, NoMemory, Want};
+use plan_laws::empty_is_in_order;
 use plan_parts::is_number;
 use plan_read::{AnswerForm, KeepFault, Plan, fetch, keep, plan};
 use std::alloc::Global;
@@ -85,7 +87,16 @@ pub fn run(
 pub fn nothing_held(alloc: Global) -> Result<Held, NoMemory>
     ensures { IfOk result IsWorkSet }
 {
-    Held::new(alloc, SMALL)
+    empty(alloc, SMALL)
+}
+
+/// The empty work set of a cluster.
+pub fn empty(alloc: Global, geometry: Geometry) -> Result<Held, NoMemory>
+    requires { IsWithinLimits geometry }
+    ensures { IfOk result IsWorkSet }
+{
+    empty_is_in_order();
+    Held::new(alloc, geometry)
 }
 
 // Whether the handle of a call that reads has a number of this cluster.

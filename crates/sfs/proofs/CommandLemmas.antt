@@ -12,7 +12,11 @@ use Rattle.line_words.proofs.SpellingLemmas.{one_line, wide_word, no_words}
 use Rattle.sfs.specs.Command.{asked, only_number}
 use Rattle.sfs.specs.declared.status.Status.{Status}
 use Rattle.sfs.specs.declared.status.Status.TheVariants as status
-use Rattle.sfs.specs.Run.{Transcribes, TellsTree, Makes}
+use Rattle.check_input.specs.Whole.{OfText}
+use Rattle.check_command.specs.declared.found.Found.{Found}
+use Rattle.check_command.specs.declared.found.Found.TheVariants as found
+use Rattle.check_command.specs.Command.{WasTold}
+use Rattle.sfs.specs.Run.{Transcribes, TellsTree, Checks, Makes, Causes, status_of}
 
 -- ---- the number that one word spells
 
@@ -90,3 +94,18 @@ not_listed left held held' s did is = subst (TellsTree left held held') is did
 
 pub not_made : (text : List ℕ) (held held' : Option (List ℕ)) (s : Status) → Makes text held held' s → s ≡ status.Usage → ⊥
 not_made text held held' s did is = subst (Makes text held held') is did
+
+pub not_checked : (left held held' : Option (List ℕ)) (s : Status) → Checks left held held' s → s ≡ status.Usage → ⊥
+not_checked left held held' s did is = subst (Checks left held held') is did
+
+-- ---- what was found
+
+pub found_as : (left held held' : Option (List ℕ)) (f : Found) (s : Status) → OfText left (WasTold held held' f) → s ≡ status_of f → Checks left held held' s
+found_as left held held' found.Holds s did is = rw is did
+found_as left held held' (found.Fails line) s did is = rw is (line, did)
+found_as left held held' (found.Refused line) s did is = rw is (line, did)
+
+pub found_counted : (read read' written written' : ℕ) (f : Found) (s : Status) → (read' ≡ read) × (written' ≡ written) → s ≡ status_of f → Causes read read' written written' s
+found_counted read read' written written' found.Holds s counts is = rw is counts
+found_counted read read' written written' (found.Fails line) s counts is = rw is counts
+found_counted read read' written written' (found.Refused line) s counts is = rw is counts

@@ -21,9 +21,9 @@ use Rattle.sfs.specs.Schedule.{Schedule}
 use Rattle.nfs_service.specs.declared.request.Request.{Request}
 use Rattle.nfs_service.specs.declared.request.Request.TheVariants as request
 use Rattle.fs_tree.specs.declared.response.Change.{Change}
-use Rattle.sfs.specs.declared.outcome.Outcome.{Outcome}
+use Rattle.arrival_outcome.specs.declared.outcome.Outcome.{Outcome}
 use Rattle.nfs_service.specs.Reply.{heard, Effect, effect}
-use Rattle.sfs.specs.Outcome.{ComesTo, points_after}
+use Rattle.arrival_outcome.specs.Outcome.{ComesTo, points_after}
 use Rattle.sfs.specs.Book.{Book, Arrival, numbered, point_of, may_come, come_from, next_event, response, with_arrival, with_point, noted, book_after}
 use Rattle.sfs.specs.Legal.{IsRunning, Arrives, Changes, Replies, Drops, HoldsAt, IsAllowed, IsLegalFrom}
 use Rattle.sfs.specs.World.{Stands, GoesOn, closing, change_lines, arrival_lines}

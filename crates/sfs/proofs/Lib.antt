@@ -1,4 +1,3 @@
-pub mod RulesLemmas
 pub mod BookLemmas
 pub mod EventLemmas
 pub mod ReplayLemmas

@@ -4,7 +4,7 @@ use Rattle.std.specs.Str.{bytes_eq}
 use Rattle.line_words.specs.Words.{number_of}
 use Rattle.line_words.specs.Reading.{◌>>=◌, number_at, at_end}
 use Rattle.sfs.specs.declared.command.Command.{Command}
-use Rattle.sfs.specs.declared.command.Command.TheVariants.{Replay, Tree, Make}
+use Rattle.sfs.specs.declared.command.Command.TheVariants.{Replay, Tree, Check, Make}
 use Rattle.sfs.specs.declared.command.TheConstants.{MAX_ARRIVALS}
 
 -- a schedule of so many arrivals, where there are not too many
@@ -19,9 +19,10 @@ made_of (Some seed) (Some count) = few seed count
 
 -- the command of one word
 abbrev pub asked_alone : List ℕ → Option Command
-asked_alone name = if bytes_eq name (codes "replay") then Some Replay else if bytes_eq name (codes "tree") then Some Tree else None
+asked_alone name =
+    if bytes_eq name (codes "replay") then Some Replay else if bytes_eq name (codes "tree") then Some Tree else if bytes_eq name (codes "check") then Some Check else None
 
--- the command that the words are, by the bytes of each: `replay`, `tree`, or `make` with a number below 2 ^ 64 and a number of
+-- the command that the words are, by the bytes of each: `replay`, `tree`, `check`, or `make` with a number below 2 ^ 64 and a number of
 -- arrivals
 abbrev pub asked : List (List ℕ) → Option Command
 asked [] = None

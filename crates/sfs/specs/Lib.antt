@@ -1,5 +1,4 @@
 pub mod Schedule
-pub mod Outcome
 pub mod Book
 pub mod Legal
 pub mod World

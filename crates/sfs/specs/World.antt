@@ -9,7 +9,7 @@ use Rattle.event_text.specs.declared.event.Event.{Event}
 use Rattle.event_text.specs.declared.event.Event.TheVariants as event
 use Rattle.line_text.specs.declared.line.Line.{Line}
 use Rattle.line_text.specs.Grammar.{IsWritableLine}
-use Rattle.sfs.specs.declared.outcome.Outcome.{Outcome}
+use Rattle.arrival_outcome.specs.declared.outcome.Outcome.{Outcome}
 use Rattle.sfs.specs.declared.world.World.{World}
 use Rattle.sfs.specs.declared.step.Step.{Step}
 use Rattle.sfs.specs.declared.step.Step.TheVariants.{On, Ended, Refused}

@@ -14,6 +14,8 @@ const TREE: &[u8] = b"tree";
 
 const MAKE: &[u8] = b"make";
 
+const CHECK: &[u8] = b"check";
+
 /// What the words of a command line ask for.
 #[derive(Clone, Copy, Debug, PartialEq, Eq)]
 pub enum Command {
@@ -21,6 +23,8 @@ pub enum Command {
     Replay,
     /// `tree`: list the tree of images.
     Tree,
+    /// `check`: judge a transcript.
+    Check,
     /// `make SEED COUNT`: make a schedule of so many arrivals from a number.
     Make { seed: u64, count: u32 },
 }
@@ -46,6 +50,8 @@ fn alone(name: &[u8]) -> Option<Command>
         Some(Command::Replay)
     } else if name == TREE {
         Some(Command::Tree)
+    } else if name == CHECK {
+        Some(Command::Check)
     } else {
         None
     }

@@ -2,13 +2,13 @@ ghost use Rattle.std.specs.Prelude.{◌≡◌, ℕ, ◌<◌, List, slice_get, So
 ghost use Rattle.event_text.specs.declared.event.Event.TheVariants as event;
 ghost use Rattle.line_words.specs.declared.limits.TheConstants.{MAX_LINES};
 ghost use Rattle.sfs.specs.Schedule.{Schedule};
-ghost use Rattle.sfs.specs.Outcome.{points_after};
+ghost use Rattle.arrival_outcome.specs.Outcome.{points_after};
 ghost use Rattle.sfs.specs.World.{arrival_lines, closing};
 ghost use Rattle.sfs.specs.Book.{Book};
 
-use crate::outcome::Outcome;
 use crate::step::Step;
 use crate::world::World;
+use arrival_outcome::Outcome;
 use fs_tree::{Geometry, Stamp, Tree};
 use nfs_service::Request;
 use schedule_text::{DropWhy, Event, Line, Lines};

@@ -3,8 +3,7 @@
 //!
 //! - [`run`]: the words of the command line, an input and an output, to a status; `command`: what the words ask for.
 //! - `replay`, `turn`, `ending`: the turns of a replay; `transcript`: what it writes.
-//! - `world`, `events`, `step`: the plain world, and what an event makes of it; `outcome`: what an arrival
-//!   comes to.
+//! - `world`, `events`, `step`: the plain world, and what an event makes of it.
 //! - `status`: how a run ends.
 //! - `standard_input`, `standard_output`: the streams of the process.
 #![tactic(auto)]
@@ -16,7 +15,6 @@ ghost use Rattle.sfs.specs.Status.{code_of};
 mod command;
 mod ending;
 mod events;
-mod outcome;
 mod replay;
 mod run;
 mod standard_input;

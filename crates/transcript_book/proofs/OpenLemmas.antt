@@ -233,6 +233,30 @@ pub running_points : (arrivals : List Arrival) (k : ℕ) (a : Arrival) (m : ℕ)
 running_points arrivals zero a m each at runs = absurd cc
 running_points arrivals (suc i) a m each at runs = running_in arrivals 1 i a m each at runs
 
+pushed : (runs : Bool) (o : Open) (os : List Open) (j : ℕ) (p : Open) → slice_get os j ≡ Some p → (i : ℕ) × (slice_get (cond runs (o ∷ os) os) i ≡ Some p)
+pushed true o os j p at = (suc j, at)
+pushed false o os j p at = (j, at)
+
+-- one that has not ended is among them
+open_at : (arrivals : List Arrival) (k i n : ℕ) (a : Arrival) → n ≡ k + i → slice_get arrivals i ≡ Some a → a.ended ≡ None → (j : ℕ) × (slice_get (opens k arrivals) j ≡ Some (open_of n a))
+unfolding opens
+open_at [] k i n a is at runs = absurd cc
+open_at (x ∷ arrivals) k zero n a is at runs =
+    let same : x ≡ a = cc in
+    let running : is_running x ≡ true = ap is_running same ∙ ap (λ e. option_map_or (λ y. false) e true) runs in
+    let first : k ≡ n = omega (arith, is) in
+    (0, ap (λ b. slice_get (cond b (open_of k x ∷ opens (k + 1) arrivals) (opens (k + 1) arrivals)) 0) running ∙ ap (λ (y : Arrival). Some (open_of k y)) same ∙ ap (λ (m : ℕ). Some (open_of m a)) first)
+open_at (x ∷ arrivals) k (suc i) n a is at runs =
+    let rest = open_at arrivals (k + 1) i n a (omega (arith, is)) at runs in
+    pushed (is_running x) (open_of k x) (opens (k + 1) arrivals) rest.0 (open_of n a) rest.1
+
+pub running_beside : (arrivals : List Arrival) (k : ℕ) (a : Arrival) (m number : ℕ) → ((j : ℕ) (o : Open) → slice_get (opens 1 arrivals) j ≡ Some o → (o.number ≡ number → ⊥) → m ≤ o.points)
+    → numbered arrivals k ≡ Some a → a.ended ≡ None → (k ≡ number → ⊥) → m ≤ a.points
+running_beside arrivals zero a m number each at runs other = absurd cc
+running_beside arrivals (suc i) a m number each at runs other =
+    let there = open_at arrivals 1 i (suc i) a (omega arith) at runs in
+    each there.0 (open_of (suc i) a) there.1 other
+
 -- ---- all are changed one after another
 
 swept_one : (f : Arrival → Arrival) (xs : List Arrival) (i : ℕ) → i < length xs → with_numbered (map f (take i xs) ++ drop i xs) (suc i) f ≡ map f (take (suc i) xs) ++ drop (suc i) xs

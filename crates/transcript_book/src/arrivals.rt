@@ -113,6 +113,16 @@ impl Arrivals {
         least_points(&self.going, points)
     }
 
+    /// The least number of changes that stood before an arrival other than `number` which has not ended, and at most
+    /// `points`.
+    pub fn least_points_beside(&self, number: u64, points: u64) -> u64
+        ensures bound { result ≤ points }
+        ensures each { (a : AnArrival) (k : ℕ) → numbered self.now k ≡ Some a → a.ended ≡ None → (k ≡ number → ⊥)
+            → result ≤ a.points }
+    {
+        least_points_beside(&self.going, number, points)
+    }
+
     /// The arrival that runs at a node: the earliest that has not ended; `None` exactly where there is none.
     pub fn running_at(&self, node: u32) -> Option<u64>
         ensures { result ≡ first_open node 1 self.now }
@@ -222,6 +232,20 @@ fn least_points(going: &[Open], points: u64) -> u64
     let mut least = points;
     for one in going {
         if one.points < least {
+            least = one.points;
+        }
+    }
+    least
+}
+
+// The least number of changes that stood before one of these, but for this one, and at most so many.
+fn least_points_beside(going: &[Open], number: u64, points: u64) -> u64
+    ensures bound { result ≤ points }
+    ensures each { (k : ℕ) (o : AnOpen) → slice_get going.now k ≡ Some o → (o.number ≡ number → ⊥) → result ≤ o.points }
+{
+    let mut least = points;
+    for one in going {
+        if one.number != number && one.points < least {
             least = one.points;
         }
     }

@@ -9,5 +9,5 @@ hold-requires-clause-told c =
     let held = c.args.held.now in
     let call = c.args.call.now in
     let cred = c.args.cred.now in
-    let wanted = subst (λ (p : Plan). IsPlan held 0 call cred (record { sec = 0; usec = 0 }) p) c.in-Need.is (c.in_ok-want.ensures {u = tt}) in
+    let wanted = subst (λ (p : Plan). IsPlan held 0 call cred (record { sec = 0; usec = 0 }) p) c.in-Need.is c.in_ok-want.ensures.keeps in
     wants_are_told held 0 call cred c.in-Need.want c.requires.work (c.has_numbers.ensures c.if-not-has_numbers.false) wanted

@@ -6,7 +6,7 @@ use Rattle.fs_rules.specs.declared.plain_tree.PlainTree.{PlainTree}
 use Rattle.nfs_service.specs.declared.request.Request.{Request}
 use Rattle.sfs.specs.declared.world.World.{World}
 use Rattle.nfs_service.specs.Reply.{heard, effect}
-use Rattle.sfs.specs.Outcome.{ComesTo}
+use Rattle.arrival_outcome.specs.Outcome.{ComesTo}
 use Rattle.sfs.specs.World.{GoesOn}
 use Rattle.sfs.proofs.EventLemmas.{not_come, no_node, no_number, Counted, counted_one, counted_none, goes_on}
 use Rattle.sfs.proofs.world.World.arrive.Goals as goal

@@ -1,0 +1,4 @@
+pub mod FreeLemmas
+pub mod CircleLemmas
+pub mod PickLemmas
+pub mod RoomLemmas

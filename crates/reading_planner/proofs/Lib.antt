@@ -1,0 +1,4 @@
+pub mod SizedLemmas
+pub mod ListingLemmas
+pub mod AnswerLemmas
+pub mod PlanLemmas

@@ -1,0 +1,5 @@
+use Rattle.take_laws.proofs.MapLemmas as lemma
+use Rattle.take_laws.proofs.laws.marked_maps_tell.Goals as goal
+
+pub returns : goal.returns
+returns c = lemma.marked_maps_tell c.fronts_are_put.ensures c.exchanges_are_owners.ensures

@@ -1,0 +1,4 @@
+pub mod Standing
+pub mod Plain
+pub mod Beginning
+pub mod Answers

@@ -1,0 +1,10 @@
+use Rattle.std.proofs.Common.{length, refl}
+use Rattle.std.proofs.lemmas.Option.{slice_get_read}
+use Rattle.transcript_book.proofs.PostLemmas.{set_numbered_at}
+use Rattle.transcript_facts.specs.Facts.{with_over}
+use Rattle.transcript_facts.proofs.backups.give_up_at.Goals as goal
+
+pub returns : goal.returns
+returns c =
+    let told = c.args.told.now.items in
+    set_numbered_at told c.args.index with_over c.index_mut.result.now (slice_get_read told (length told) c.args.index c.index_mut.result.now refl c.requires c.index_mut.ensures.value)

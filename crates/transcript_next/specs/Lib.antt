@@ -1,0 +1,4 @@
+pub mod Coming
+pub mod Nexts
+pub mod Overs
+pub mod Same

@@ -1,0 +1,3 @@
+pub mod TreeLemmas
+pub mod PlaceLemmas
+pub mod KeptLemmas
